@@ -1,0 +1,13 @@
+-- The four bytes that are written are the line's, and no other line's.
+use borrow.Author.Needs.{needs}
+use native.Mathlib.Omega.{arith}
+use Rattle.memory.proofs.FourBytes.{line-written}
+use Rattle.memory.proofs.byte.ByteLines.write.Needs as need
+
+pub returns : need.returns
+returns c =
+    record {
+      answer = search needs;
+      after = line-written _ _ _ (c .if-place-self .left) (omega arith) _ (c .to-le-bytes .ensures);
+      lender = search needs;
+    }

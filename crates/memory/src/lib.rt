@@ -1,0 +1,5 @@
+//! Memories: what they mean, and three kinds of them.
+pub mod byte;
+pub mod split;
+pub mod store;
+pub mod word;

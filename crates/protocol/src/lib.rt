@@ -1,0 +1,3 @@
+//! What is asked of the machine, and how it refuses.
+pub mod call;
+pub mod fault;

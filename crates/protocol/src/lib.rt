@@ -1,3 +1,4 @@
 //! What is asked of the machine, and how it refuses.
 pub mod call;
 pub mod fault;
+pub mod limits;

@@ -1,0 +1,4 @@
+mod HeaderChecks
+mod Tails
+mod RowSteps
+mod NumberSteps

@@ -1,0 +1,4 @@
+pub mod Format
+pub mod Headers
+pub mod Reading
+pub mod RowReading

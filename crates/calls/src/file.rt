@@ -1,5 +1,7 @@
 //! What a calls file says, and why one cannot be read.
+ghost use Prim.Native.Nat.{_≤_};
 ghost use mathlib.Core.Path.{_≡_};
+ghost use Rattle.std.specs.Of.Vec.{vec-len};
 ghost use Rattle.calls.specs.declared.file.ReadError.the-variants.{Damaged, NoMemory};
 use protocol::call::Call;
 use protocol::call::CallDebug;
@@ -34,6 +36,8 @@ pub struct CallsFile {
     pub values: Vec<u32>,
     pub calls: Vec<Call>,
     pub fault: Option<Fault>,
+    ghost warps: { vec-len stamps ≤ 32 },
+    ghost lines: { vec-len values ≤ 4096 },
 }
 
 /// Why nothing is read: the header is damaged, or there is no memory for what it says.

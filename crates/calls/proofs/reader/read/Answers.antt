@@ -4,7 +4,7 @@ use mathlib.Core.Path.{_≡_, _∙_, ap}
 use native.Mathlib.Omega.{arith}
 use lib.ListN.{length}
 use Rattle.std.proofs.shelf.Ways.{tells}
-use Rattle.calls.specs.Format.{warps}
+use Rattle.calls.specs.Format.{warps, lines}
 use Rattle.calls.proofs.NumberSteps.{numbers-length}
 use Rattle.calls.proofs.reader.read.Needs as need
 
@@ -14,6 +14,19 @@ find-late-requires c κs =
     let size = shaped .size in
     let few : warps (c .args .bytes .now) ≤ 32 = grind (arith, tells) in
     let long =
-    ap length (c .as-slice .ensures .value ∙ c .in-Continue-stamps .ensures tt)
-    ∙ numbers-length (c .args .bytes .now) 9 _ in
+            ap length (c .as-slice .ensures .value ∙ c .in-Continue-stamps .ensures tt)
+            ∙ numbers-length (c .args .bytes .now) 9 _ in
     omega arith
+
+pub ghost-result : need.ghost-result
+ghost-result c =
+    let bytes = c .args .bytes .now in
+    let shaped = c .in-Continue-shape .ensures tt in
+    let size = shaped .size in
+    let warps-few : warps bytes ≤ 32 = grind (arith, tells) in
+    let lines-few : lines bytes ≤ 4096 = grind (arith, tells) in
+    let stamps = c .in-Continue-stamps .stamps in
+    let values = c .in-Continue-values .values in
+    let stamps-long = ap length (c .in-Continue-stamps .ensures tt) ∙ numbers-length bytes 9 _ in
+    let values-long = ap length (c .in-Continue-values .ensures tt) ∙ numbers-length bytes _ _ in
+    (omega (arith, stamps .ok .0), (omega (arith, values .ok .0), tt))

@@ -1,0 +1,3 @@
+//! The listing: from the bytes of a calls file to the text that a simulator's listing is compared with.
+pub mod listing;
+pub mod text;

@@ -2,3 +2,4 @@ mod HeaderChecks
 mod Tails
 mod RowSteps
 mod NumberSteps
+mod FrontReads

@@ -1,4 +1,5 @@
 pub mod Format
+pub mod Front
 pub mod Headers
 pub mod Reading
 pub mod RowReading

@@ -2,11 +2,13 @@
 ghost use mathlib.Core.Path.{_≡_};
 ghost use Prim.Native.Nat.{_+_, _*_, _^_, _<_, _≤_};
 ghost use lib.ListN.{length};
+ghost use lib.Dec.{ltb};
+ghost use Rattle.protocol.specs.Limits.{last-stamp};
 ghost use Rattle.std.specs.Results.{Cases};
 ghost use Rattle.std.specs.Vec.{made};
 ghost use Rattle.std.specs.Of.Vec.{vec-items};
 ghost use Rattle.std.specs.declared.option.Option.the-variants.{Some};
-ghost use Rattle.calls.specs.Format.{book-named, header-fault, numbers, late-stamp};
+ghost use Rattle.calls.specs.Format.{book-named, header-fault, four-bytes, numbers, late-stamp};
 ghost use Rattle.calls.specs.Headers.{Versioned, Shaped};
 use crate::file::BookKind;
 use protocol::fault::Fault;
@@ -17,9 +19,9 @@ use std::alloc::Global;
 
 const VERSION: u16 = 1;
 
-const WARPS: usize = limits::WARPS as usize;
+pub(crate) const WARPS: usize = limits::WARPS as usize;
 
-const LINES: usize = limits::LINES as usize;
+pub(crate) const LINES: usize = limits::LINES as usize;
 
 /// The header's sizes, as far as they say where everything else stands.
 #[derive(Clone, Copy)]
@@ -92,10 +94,22 @@ pub(crate) fn read_numbers(
 {
     let mut all = Vec::new(heap);
     for i in 0..count {
-        let at = place + 4 * i;
-        all.push(u32::from_be_bytes([bytes[at], bytes[at + 1], bytes[at + 2], bytes[at + 3]]))?;
+        all.push(number_at(bytes, place + 4 * i))?;
     }
     Ok(all)
+}
+
+// The 32-bit number at a place.
+fn number_at(bytes: &[u8], place: usize) -> u32
+    requires { ⌜ place + 4 ≤ length (now bytes) ⌝ }
+    ensures { λ r. ⌜ r ≡ four-bytes (now (bytes .entry)) place ⌝ }
+{
+    u32::from_be_bytes([
+        bytes[place],
+        bytes[place + 1],
+        bytes[place + 2],
+        bytes[place + 3],
+    ])
 }
 
 /// The place of the first stamp past the end of the clock, where the first of them stands at a place.
@@ -104,9 +118,16 @@ pub(crate) fn find_late(stamps: &[u32], place: usize) -> Option<usize>
     ensures { λ r. ⌜ r ≡ late-stamp place (now (stamps .entry)) ⌝ }
 {
     for (i, stamp) in stamps.iter().enumerate() {
-        if *stamp > limits::LAST_STAMP {
+        if is_late(*stamp) {
             return Some(place + 4 * i);
         }
     }
     None
+}
+
+// A stamp past the end of the clock.
+fn is_late(stamp: u32) -> bool
+    ensures { λ r. ⌜ r ≡ ltb last-stamp stamp ⌝ }
+{
+    stamp > limits::LAST_STAMP
 }

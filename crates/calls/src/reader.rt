@@ -1,12 +1,17 @@
 //! From the bytes of a calls file to what it says.
+ghost use mathlib.Core.Path.{_≡_};
+ghost use Rattle.calls.specs.Front.{Suffices, longest-file};
 ghost use Rattle.calls.specs.Reading.{Reads};
 use crate::file::CallsFile;
 use crate::file::ReadError;
 use crate::file::ReadErrorFromAlloc;
 use crate::file::ReadErrorFromFault;
+use crate::header::LINES;
+use crate::header::WARPS;
 use crate::header::find_late;
 use crate::header::read_numbers;
 use crate::header::read_shape;
+use crate::rows::ROWS;
 use crate::rows::read_rows;
 use protocol::fault::Fault;
 use protocol::fault::Refusal;
@@ -39,4 +44,18 @@ pub fn read(heap: Global, bytes: &[u8]) -> Result<CallsFile, ReadError>
         calls: rows.calls,
         fault: rows.fault,
     })
+}
+
+/// So many first bytes tell all that a file says, however long it is: one more than the longest file has.
+pub fn enough_bytes() -> usize
+    ensures { λ r. ⌜ Suffices r ⌝ }
+{
+    longest_file() + 1
+}
+
+// The length of a file with every warp, line and row.
+fn longest_file() -> usize
+    ensures { λ r. ⌜ r ≡ longest-file ⌝ }
+{
+    STAMPS_PLACE + 4 * WARPS + 4 * LINES + 8 * ROWS
 }

@@ -16,7 +16,7 @@ use std::alloc::AllocError;
 use std::alloc::Global;
 
 /// A file has at most so many rows.
-const ROWS: usize = 4096;
+pub(crate) const ROWS: usize = 4096;
 
 /// The calls of the rows, and what is wrong after them.
 #[derive(Drop)]

@@ -1,12 +1,10 @@
 //! Turns a calls file on standard input into its listing on standard output.
+use calls::reader::enough_bytes;
+use listing::listing::ListErrorError;
 use listing::listing::list;
 use std::error::AnyError;
 use std::io::Read;
 use std::io::Write;
-use listing::listing::ListErrorError;
-
-/// No calls file is longer than this less one byte, so what comes after it changes no listing.
-const ENOUGH: u64 = 49_290;
 
 fn main(rt: LibcRuntime) -> Result<(), AnyError> {
     match write_listing(&rt) {
@@ -18,11 +16,13 @@ fn main(rt: LibcRuntime) -> Result<(), AnyError> {
     }
 }
 
-// Nothing is written before the whole listing is there.
+// Reads no more of the input than can change the listing, and writes nothing before the whole listing is there.
 fn write_listing(rt: &LibcRuntime) -> Result<(), AnyError> {
     let heap = rt.alloc();
     let mut bytes = Vec::new(heap);
-    rt.stdin().take(ENOUGH).read_to_end(&mut bytes)?;
+    rt.stdin()
+        .take(enough_bytes() as u64)
+        .read_to_end(&mut bytes)?;
     let text = list(heap, bytes.as_slice())?;
     rt.stdout().write_all(text.as_bytes())?;
     Ok(())

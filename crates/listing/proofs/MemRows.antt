@@ -7,7 +7,7 @@ use Rattle.memory.specs.Lines.{Lines}
 use Rattle.listing.specs.Listing.{mem-rows, line-row}
 
 pub one-line-more :
-  (lines : Lines) (line : ℕ) (before all after : List ℕ)
-  → all ≡ before ++ mem-rows lines line → after ≡ all ++ line-row line (lines line)
-  → after ≡ before ++ mem-rows lines (line + 1)
+    (lines : Lines) (line : ℕ) (before all after : List ℕ)
+    → all ≡ before ++ mem-rows lines line → after ≡ all ++ line-row line (lines line)
+    → after ≡ before ++ mem-rows lines (line + 1)
 one-line-more lines line before all after e f = simp (f, e, append-assoc, add-one)

@@ -9,8 +9,8 @@ use Rattle.listing.specs.Rows.{written}
 use Rattle.listing.specs.declared.text.Text.{Text}
 
 pub five-pieces :
-  {E : Type 0} (r : Result Text E) (s t1 t2 t3 t4 a b c d e : List ℕ)
-  → t1 ≡ s ++ a → t2 ≡ t1 ++ b → t3 ≡ t2 ++ c → t4 ≡ t3 ++ d → made r (λ t. written t ≡ t4 ++ e)
-  → made r (λ t. written t ≡ s ++ (a ++ (b ++ (c ++ (d ++ e)))))
+    {E : Type 0} (r : Result Text E) (s t1 t2 t3 t4 a b c d e : List ℕ)
+    → t1 ≡ s ++ a → t2 ≡ t1 ++ b → t3 ≡ t2 ++ c → t4 ≡ t3 ++ d → made r (λ t. written t ≡ t4 ++ e)
+    → made r (λ t. written t ≡ s ++ (a ++ (b ++ (c ++ (d ++ e)))))
 five-pieces (Ok t) s t1 t2 t3 t4 a b c d e p1 p2 p3 p4 p5 = p5 ∙ simp (p4, p3, p2, p1, append-assoc)
 five-pieces (Err x) s t1 t2 t3 t4 a b c d e p1 p2 p3 p4 p5 = tt

@@ -10,12 +10,12 @@ use calls::file::CallsFile;
 use calls::file::ReadError;
 use calls::reader::read;
 use memory::store::Memory;
+use memory::word::WordLines;
 use memory::word::WordMemory;
 use std::alloc::AllocError;
 use std::alloc::Global;
 use std::error::Error;
 use std::fmt;
-use memory::word::WordLines;
 
 /// Why there is no listing.
 #[derive(Clone, Copy, PartialEq, Eq, Debug)]
@@ -28,7 +28,10 @@ pub enum ListError {
 pub impl fmt::Display for ListError as ListErrorDisplay {
     fn fmt<W: fmt::Write>(&self, f: &mut fmt::Formatter<W>) -> fmt::Result {
         match self {
-            ListError::NeedsMachine => write!(f, "the file has calls, and there is no machine yet to make them of"),
+            ListError::NeedsMachine => write!(
+                f,
+                "the file has calls, and there is no machine yet to make them of"
+            ),
             ListError::NoMemory => write!(f, "there is not enough memory for the listing"),
         }
     }
@@ -59,7 +62,13 @@ pub fn list(heap: Global, bytes: &[u8]) -> Result<Text, ListError>
 fn list_file(heap: Global, file: CallsFile) -> Result<Text, ListError>
     ensures { λ r. ⌜ Answers (said-text file) r ⌝ }
 {
-    let CallsFile { book: _, stamps: _, mut values, calls, fault } = file;
+    let CallsFile {
+        book: _,
+        stamps: _,
+        mut values,
+        calls,
+        fault,
+    } = file;
     if !calls.is_empty() {
         return Err(ListError::NeedsMachine);
     }
@@ -67,7 +76,9 @@ fn list_file(heap: Global, file: CallsFile) -> Result<Text, ListError>
         return Ok(Text::new(heap).bad_row(fault)?);
     }
     let lines = values.len() as u32;
-    let memory = WordMemory { words: values.as_mut_slice() };
+    let memory = WordMemory {
+        words: values.as_mut_slice(),
+    };
     Ok(add_mem_rows(Text::new(heap), &memory, lines)?)
 }
 

@@ -23,7 +23,9 @@ impl Text {
     pub fn new(heap: Global) -> Text
         ensures { λ r. ⌜ written r ≡ [] ⌝ }
     {
-        Text { bytes: Vec::new(heap) }
+        Text {
+            bytes: Vec::new(heap),
+        }
     }
 
     pub fn as_bytes(&self) -> &[u8]
@@ -69,7 +71,11 @@ impl Text {
     fn pair_row(self, word: &str, first: u64, second: u64) -> Result<Text, AllocError>
         ensures { λ r. ⌜ made r (λ t. written t ≡ written self ++ pair-row (now (word .entry)) first second) ⌝ }
     {
-        self.word(word)?.number(first)?.word(" ")?.number(second)?.word("\n")
+        self.word(word)?
+            .number(first)?
+            .word(" ")?
+            .number(second)?
+            .word("\n")
     }
 }
 

@@ -8,6 +8,6 @@ pub loop-i-again : need.loop-i-again
 loop-i-again c =
     let more = numbers-more (c .args .bytes .now) (c .args .place) (c .loop-i .i) in
     let items = c .in-Continue-push .ensures tt .items in
-    let value = c .from-be-bytes .ensures in
+    let value = c .number-at .ensures in
     let before = c .loop-i .inv in
     cc

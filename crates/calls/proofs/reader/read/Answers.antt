@@ -14,8 +14,8 @@ find-late-requires c κs =
     let size = shaped .size in
     let few : warps (c .args .bytes .now) ≤ 32 = grind (arith, tells) in
     let long =
-            ap length (c .as-slice .ensures .value ∙ c .in-Continue-stamps .ensures tt)
-            ∙ numbers-length (c .args .bytes .now) 9 _ in
+    ap length (c .as-slice .ensures .value ∙ c .in-Continue-stamps .ensures tt)
+    ∙ numbers-length (c .args .bytes .now) 9 _ in
     omega arith
 
 pub ghost-result : need.ghost-result

@@ -9,7 +9,8 @@ loop-rest-again c = one-digit-more _ _ _ _ (c .loop-rest .inv) (c .loop-rest-tes
 
 pub returns : need.returns
 returns c =
-    record
-      { digits = last-digit _ _ _ _ (c .loop-rest .inv) (c .loop-rest-test .left);
-        within = c .loop-rest .inv .within;
-        size = length-set _ _ _ ∙ c .loop-rest .inv .size }
+    record {
+      digits = last-digit _ _ _ _ (c .loop-rest .inv) (c .loop-rest-test .left);
+      within = c .loop-rest .inv .within;
+      size = length-set _ _ _ ∙ c .loop-rest .inv .size;
+    }

@@ -1,7 +1,8 @@
 -- The calls by their letters.
 use Prim.Native.Nat.{ℕ}
 use mathlib.Core.Bool.{cond}
-use mathlib.Core.List.{List, [], _∷_}
+use mathlib.Core.List.{List, [], _∷_, map}
+use mathlib.Core.Path.{_≡_}
 use lib.Dec.{eqb}
 use Rattle.std.specs.declared.option.Option.{Option}
 use Rattle.std.specs.declared.option.Option.the-variants.{Some, None}
@@ -29,3 +30,13 @@ named-in letter (op ∷ rest) = cond (eqb letter (op-letter op)) (Some op) (name
 -- What a letter asks for, at a line and a value that only loads and stores have a use for.
 abbrev pub op-named : ℕ → ℕ → ℕ → Option Op
 op-named letter line value = named-in letter (ops-at line value)
+
+-- Each of those that can be asked for is what its own letter names.
+abbrev pub Letters-name-back : Type 0
+Letters-name-back =
+    (line value : ℕ) → map (λ op. op-named (op-letter op) line value) (ops-at line value) ≡ map Some (ops-at line value)
+
+-- What a letter names has that letter.
+abbrev pub Names-keep-letters : Type 0
+Names-keep-letters =
+    (letter line value : ℕ) (op : Op) → op-named letter line value ≡ Some op → op-letter op ≡ letter

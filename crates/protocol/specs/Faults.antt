@@ -1,12 +1,16 @@
 -- The refusals by their numbers, and who tells which.
 use Prim.Native.Nat.{ℕ}
 use mathlib.Core.Bool.{cond}
+use mathlib.Core.Path.{_≡_}
 use lib.Dec.{eqb}
 use Rattle.protocol.specs.declared.fault.Fault.{Fault}
 use Rattle.protocol.specs.declared.fault.Layer.{Layer}
 use Rattle.protocol.specs.declared.fault.Layer.the-variants.{Memory, File, Machine}
 use Rattle.protocol.specs.declared.fault.Refusal.{Refusal}
-use Rattle.protocol.specs.declared.fault.Refusal.the-variants.{NoSuchWarp, WarpIdle, WarpNotIdle, OutcomePending, NothingToFetch, NoSuchLine, LogFull, ClockSpent, BadSize, BadStamp, BadMark, BadVersion, CutShort, BadLetter, TooManyRows}
+use Rattle.protocol.specs.declared.fault.Refusal.the-variants.{NoSuchWarp, WarpIdle, WarpNotIdle, OutcomePending}
+use Rattle.protocol.specs.declared.fault.Refusal.the-variants.{NothingToFetch, NoSuchLine, LogFull, ClockSpent}
+use Rattle.protocol.specs.declared.fault.Refusal.the-variants.{BadSize, BadStamp, BadMark, BadVersion, CutShort}
+use Rattle.protocol.specs.declared.fault.Refusal.the-variants.{BadLetter, TooManyRows}
 
 -- The number by which listings name a refusal.
 abbrev pub refusal-number : Refusal → ℕ
@@ -25,6 +29,10 @@ refusal-number BadVersion = 12
 refusal-number CutShort = 13
 refusal-number BadLetter = 14
 refusal-number TooManyRows = 15
+
+-- No two refusals have one number.
+abbrev pub Numbers-tell-apart : Type 0
+Numbers-tell-apart = (one other : Refusal) → refusal-number one ≡ refusal-number other → one ≡ other
 
 -- Who tells that a call is refused: of a line that is lacking the memory, of all else the machine.
 abbrev pub call-layer : Refusal → Layer

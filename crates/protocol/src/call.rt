@@ -1,6 +1,6 @@
 //! The calls that a warp makes of the machine.
 ghost use mathlib.Core.Path.{_≡_};
-ghost use Rattle.protocol.specs.Calls.{op-letter, op-named};
+ghost use Rattle.protocol.specs.Calls.{op-letter, op-named, Letters-name-back, Names-keep-letters};
 
 /// What a warp asks for.
 #[derive(Clone, Copy, PartialEq, Eq, Debug)]
@@ -43,7 +43,9 @@ impl Op {
 
     /// What a letter asks for, at a line and a value that only loads and stores have a use for.
     pub fn named(letter: char, line: u32, value: u32) -> Option<Op>
-        ensures { λ r. ⌜ r ≡ op-named letter line value ⌝ }
+        ensures answer { λ r. ⌜ r ≡ op-named letter line value ⌝ }
+        ensures back { λ _. ⌜ Letters-name-back ⌝ }
+        ensures kept { λ _. ⌜ Names-keep-letters ⌝ }
     {
         match letter {
             'B' => Some(Op::Begin),

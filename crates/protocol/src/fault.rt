@@ -1,6 +1,6 @@
 //! A refusal, with who tells it and the number that it is about.
 ghost use mathlib.Core.Path.{_≡_};
-ghost use Rattle.protocol.specs.Faults.{refusal-number, fault-in-call, fault-in-file, told-of};
+ghost use Rattle.protocol.specs.Faults.{refusal-number, Numbers-tell-apart, fault-in-call, fault-in-file, told-of};
 
 /// Why a call is refused or a calls file is damaged: a closed list, in the order of the numbers that listings print.
 #[derive(Clone, Copy, PartialEq, Eq, Debug)]
@@ -57,7 +57,8 @@ pub struct Fault {
 impl Refusal {
     /// The number by which listings name the refusal.
     pub fn number(self) -> u8
-        ensures { λ r. ⌜ r ≡ refusal-number self ⌝ }
+        ensures answer { λ r. ⌜ r ≡ refusal-number self ⌝ }
+        ensures apart { λ _. ⌜ Numbers-tell-apart ⌝ }
     {
         match self {
             Refusal::NoSuchWarp => 1,

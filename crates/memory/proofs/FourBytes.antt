@@ -59,7 +59,8 @@ module _ (bytes : List ℕ) (line value : ℕ) (h : line < length bytes / 4) (v 
       four-apart bytes (4 * line) _ _ _ _ (4 * n + k) (omega arith) (omega arith) (omega arith) (omega arith)
 
   at-line :
-      (n : ℕ) (t : Bool) → eqb n line ≡ t → byte-lines (line-set bytes line value) n ≡ put (byte-lines bytes) line value n
+      (n : ℕ) (t : Bool) → eqb n line ≡ t
+      → byte-lines (line-set bytes line value) n ≡ put (byte-lines bytes) line value n
   at-line n true e =
       let same = eqb-true n line e in
       let room : ltb line (length bytes / 4) ≡ true = lt-ltb line (length bytes / 4) h in
@@ -73,7 +74,8 @@ module _ (bytes : List ℕ) (line value : ℕ) (h : line < length bytes / 4) (v 
       simp (e, length-set, e0, e1, e2, e3)
 
   pub line-written :
-      (four : List ℕ) → four ≡ (value % 256) ∷ (value / 256 % 256) ∷ (value / 65536 % 256) ∷ (value / 16777216 % 256) ∷ []
+      (four : List ℕ)
+      → four ≡ (value % 256) ∷ (value / 256 % 256) ∷ (value / 65536 % 256) ∷ (value / 16777216 % 256) ∷ []
       → byte-lines (four-set bytes (4 * line) (getD four 0 0) (getD four 1 0) (getD four 2 0) (getD four 3 0))
       ≡ put (byte-lines bytes) line value
   line-written four is = rw is (fun-ext (λ n. at-line n (eqb n line) refl))

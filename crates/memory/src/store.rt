@@ -11,8 +11,8 @@ use protocol::fault::Refusal;
 pub trait Memory {
     ghost at: { Self → Lines };
 
-    // The slices that it borrows, by the names under which a proof follows them: whoever lends one knows by them what it
-    // holds once the memory is gone.
+    // The slices that it borrows, by the names under which a proof follows them: whoever lends one knows by them what
+    // it holds once the memory is gone.
     ghost lent: { Self → List ℕ };
 
     /// The value of a line. Only a line that the memory lacks is refused.

@@ -2,4 +2,6 @@
 pub mod byte;
 pub mod split;
 pub mod store;
+#[cfg(test)]
+mod tests;
 pub mod word;

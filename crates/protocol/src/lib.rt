@@ -2,3 +2,5 @@
 pub mod call;
 pub mod fault;
 pub mod limits;
+#[cfg(test)]
+mod tests;

@@ -7,13 +7,13 @@ use mathlib.Core.Path.{_≡_, refl, ap, fun-ext, _∙_}
 use native.Mathlib.Nat.{add-zero, div-div-eq-div-mul}
 use native.Mathlib.Omega.{arith}
 use lib.Dec.{eqb, ltb}
-use lib.ListN.{length, getD, set, length-set}
-use lib.Seq.{getD-set-same, getD-set-other}
+use lib.ListN.{length, getD, set, drop, length-set}
+use lib.Seq.{getD-set-same, getD-set-other, drop-set-lt}
 use Rattle.std.proofs.shelf.Tests.{eqb-true, eqb-false, eq-eqb, lt-ltb}
 use Rattle.std.specs.Options.{mapped}
 use Rattle.std.specs.declared.option.Option.{Option}
 use Rattle.std.specs.declared.option.Option.the-variants.{Some, None}
-use Rattle.memory.specs.Lines.{byte-lines, little-endian, put}
+use Rattle.memory.specs.Lines.{byte-lines, little-endian, odd-bytes, put}
 
 -- Four bytes written from a place on.
 abbrev pub four-set : List ℕ → ℕ → ℕ → ℕ → ℕ → ℕ → List ℕ
@@ -79,3 +79,14 @@ module _ (bytes : List ℕ) (line value : ℕ) (h : line < length bytes / 4) (v 
       → byte-lines (four-set bytes (4 * line) (getD four 0 0) (getD four 1 0) (getD four 2 0) (getD four 3 0))
       ≡ put (byte-lines bytes) line value
   line-written four is = rw is (fun-ext (λ n. at-line n (eqb n line) refl))
+
+-- The odd bytes at the end lie past every line.
+pub odd-bytes-stay :
+    (bytes : List ℕ) (line : ℕ) → line < length bytes / 4 → (a b c d : ℕ)
+    → odd-bytes (four-set bytes (4 * line) a b c d) ≡ odd-bytes bytes
+odd-bytes-stay bytes line h a b c d =
+    let l0 : 4 * line < 4 * (length bytes / 4) = omega arith in
+    let l1 : 4 * line + 1 < 4 * (length bytes / 4) = omega arith in
+    let l2 : 4 * line + 2 < 4 * (length bytes / 4) = omega arith in
+    let l3 : 4 * line + 3 < 4 * (length bytes / 4) = omega arith in
+    simp (length-set, drop-set-lt)

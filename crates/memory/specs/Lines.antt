@@ -3,7 +3,7 @@ use Prim.Native.Nat.{ℕ, _+_, _*_, _/_, _%_, _-_}
 use mathlib.Core.Bool.{cond}
 use mathlib.Core.List.{List}
 use lib.Dec.{eqb, ltb}
-use lib.ListN.{length, getD}
+use lib.ListN.{length, getD, drop}
 use Rattle.std.specs.Options.{mapped}
 use Rattle.std.specs.declared.option.Option.{Option}
 use Rattle.std.specs.declared.option.Option.the-variants.{Some, None}
@@ -43,6 +43,10 @@ little-endian bytes place =
 -- The caller's bytes: four to a line. Odd bytes at the end are no line.
 abbrev pub byte-lines : List ℕ → Lines
 byte-lines bytes n = cond (ltb n (length bytes / 4)) (Some (little-endian bytes (4 * n))) None
+
+-- The caller's bytes that are in no line: the odd ones at the end.
+abbrev pub odd-bytes : List ℕ → List ℕ
+odd-bytes bytes = drop (4 * (length bytes / 4)) bytes
 
 -- Two memories as one: even line n is line n / 2 of the first, odd line n is line (n - 1) / 2 of the second.
 abbrev pub split-lines : Lines → Lines → Lines

@@ -1,7 +1,7 @@
 //! A memory of the caller's bytes.
 ghost use denote.Ref.{now as held, name};
 ghost use mathlib.Core.List.{[], _∷_};
-ghost use Rattle.memory.specs.Lines.{byte-lines};
+ghost use Rattle.memory.specs.Lines.{byte-lines, odd-bytes};
 use crate::store::Memory;
 use crate::store::no_such_line;
 use protocol::fault::Fault;
@@ -16,6 +16,8 @@ pub impl<'a> Memory for ByteMemory<'a> as ByteLines {
     ghost at = { λ m. byte-lines (held (m .bytes)) };
 
     ghost lent = { λ m. name (m .bytes) ∷ [] };
+
+    ghost spare = { λ m. odd-bytes (held (m .bytes)) };
 
     fn read(&self, line: u32) -> Result<u32, Fault> {
         let place = line as usize;

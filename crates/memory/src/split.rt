@@ -16,6 +16,8 @@ pub impl<E: Memory, O: Memory> Memory for SplitMemory<E, O> as SplitLines {
 
     ghost lent = { λ m. E·Memory .lent (m .even) ++ O·Memory .lent (m .odd) };
 
+    ghost spare = { λ m. E·Memory .spare (m .even) ++ O·Memory .spare (m .odd) };
+
     fn read(&self, line: u32) -> Result<u32, Fault> {
         let answer = if line % 2 == 0 {
             self.even.read(line / 2)

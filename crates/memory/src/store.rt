@@ -15,6 +15,9 @@ pub trait Memory {
     // it holds once the memory is gone.
     ghost lent: { Self → List ℕ };
 
+    // What it borrows besides its lines.
+    ghost spare: { Self → List ℕ };
+
     /// The value of a line. Only a line that the memory lacks is refused.
     fn read(&self, line: u32) -> Result<u32, Fault>
         ensures { λ r. ⌜ r ≡ okOr (at (now (self .entry)) line) (no-line line) ⌝ };
@@ -23,7 +26,8 @@ pub trait Memory {
     fn write(&mut self, line: u32, value: u32) -> Result<(), Fault>
         ensures answer { λ r. ⌜ r ≡ done (at (now (self .entry)) line) (no-line line) ⌝ }
         ensures after { λ _. ⌜ at (now (self .exit)) ≡ put (at (now (self .entry))) line value ⌝ }
-        ensures lender { λ _. ⌜ lent (now (self .exit)) ≡ lent (now (self .entry)) ⌝ };
+        ensures lender { λ _. ⌜ lent (now (self .exit)) ≡ lent (now (self .entry)) ⌝ }
+        ensures untouched { λ _. ⌜ spare (now (self .exit)) ≡ spare (now (self .entry)) ⌝ };
 }
 
 /// The refusal of a line that the memory lacks.

@@ -17,6 +17,8 @@ pub impl<'a> Memory for WordMemory<'a> as WordLines {
 
     ghost lent = { λ m. name (m .words) ∷ [] };
 
+    ghost spare = { λ _. [] };
+
     fn read(&self, line: u32) -> Result<u32, Fault> {
         let place = line as usize;
         if place >= self.words.len() {

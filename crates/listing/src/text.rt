@@ -1,5 +1,5 @@
 //! Text that grows at its end, and the rows that need no machine.
-ghost use Prim.Native.Nat.{_<_};
+ghost use Prim.Native.Nat.{_+_, _<_};
 ghost use lib.ListN.{drop, length};
 ghost use mathlib.Core.List.{[], _++_};
 ghost use mathlib.Core.Path.{_≡_};
@@ -89,10 +89,17 @@ fn decimal_digits(number: u64) -> ([u8; DIGITS], usize)
     let mut first = DIGITS - 1;
     let mut rest = number;
     while rest >= 10 {
-        digits[first] = b'0' + (rest % 10) as u8;
+        digits[first] = digit(rest % 10);
         first -= 1;
         rest /= 10;
     }
-    digits[first] = b'0' + rest as u8;
+    digits[first] = digit(rest);
     (digits, first)
+}
+
+fn digit(number: u64) -> u8
+    requires { ⌜ number < 10 ⌝ }
+    ensures { λ r. ⌜ r ≡ 48 + number ⌝ }
+{
+    b'0' + number as u8
 }

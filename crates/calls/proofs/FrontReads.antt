@@ -19,7 +19,9 @@ use Rattle.protocol.specs.declared.call.Call.{Call}
 use Rattle.protocol.specs.declared.call.Op.{Op}
 use Rattle.protocol.specs.Faults.{fault-in-file}
 use Rattle.protocol.specs.declared.fault.Refusal.the-variants.{BadStamp, BadLetter}
-use Rattle.calls.specs.Format.{header-fault, marked, two-bytes, book-named, sized, warps, lines, stamps, values, rows-place, late-stamp, numbers, four-bytes, rows-from, row-at, row-call, row-before, file-rows}
+use Rattle.calls.specs.Format.{header-fault, marked, two-bytes, book-named, sized, warps, lines, stamps, values}
+use Rattle.calls.specs.Format.{rows-place, late-stamp, numbers, four-bytes, rows-from, row-at, row-call, row-before}
+use Rattle.calls.specs.Format.{file-rows}
 use Rattle.calls.specs.declared.file.Row.the-variants.{Made, Faulty}
 use Rattle.calls.specs.Front.{ReadAlike, Suffices, longest-file}
 use Rattle.calls.proofs.HeaderChecks.{wrong-mark, wrong-version, wrong-book, wrong-size, long-enough, sound-size}

@@ -11,8 +11,10 @@ use Rattle.std.specs.declared.option.Option.{Option}
 use Rattle.std.specs.declared.option.Option.the-variants.{Some, None}
 use Rattle.protocol.specs.Faults.{fault-in-file}
 use Rattle.protocol.specs.declared.fault.Fault.{Fault}
-use Rattle.protocol.specs.declared.fault.Refusal.the-variants.{BadSize, BadStamp, BadMark, BadVersion, CutShort, BadLetter}
-use Rattle.calls.specs.Format.{header-fault, first-found, marked, two-bytes, book-named, sized, rows-place, late-stamp, stamps}
+use Rattle.protocol.specs.declared.fault.Refusal.the-variants.{BadSize, BadStamp, BadMark, BadVersion}
+use Rattle.protocol.specs.declared.fault.Refusal.the-variants.{CutShort, BadLetter}
+use Rattle.calls.specs.Format.{header-fault, first-found, marked, two-bytes, book-named, sized}
+use Rattle.calls.specs.Format.{rows-place, late-stamp, stamps}
 
 only-found : (found : Option Fault) → first-found (found ∷ []) ≡ found
 only-found None = refl
@@ -52,7 +54,7 @@ module _ (bytes : List ℕ) where
 
   -- A sound header has sound sizes.
   pub sound-size : header-fault bytes ≡ None → sized bytes ≡ true
-  sound-size sound = go (marked bytes) (eqb (two-bytes bytes 3) 1) (isSome (book-named (getD bytes 5 0))) (sized bytes) refl refl refl refl
+  sound-size sound = go _ _ _ _ refl refl refl refl
     where
       none≢some : {fault : Fault} → header-fault bytes ≡ Some fault → ⊥
       none≢some e = some-not-none (sym e ∙ sound)

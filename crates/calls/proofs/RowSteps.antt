@@ -52,7 +52,8 @@ module _ (bytes : List ℕ) (i place : ℕ) (calls : List Call) (rows : Rows)
   at-end h is = last-found calls None rows (with-row h End is)
 
   pub at-fault :
-      i < 4096 → (found : Fault) → Faulty found ≡ row-at bytes place → (calls ≡ rows .calls) × (Some found ≡ rows .fault)
+      i < 4096 → (found : Fault) → Faulty found ≡ row-at bytes place
+      → (calls ≡ rows .calls) × (Some found ≡ rows .fault)
   at-fault h found is = last-found calls (Some found) rows (with-row h (Faulty found) is)
 
   pub at-limit :

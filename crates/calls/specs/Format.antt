@@ -13,7 +13,8 @@ use Rattle.protocol.specs.Limits.{line-limit, warp-limit, last-stamp}
 use Rattle.protocol.specs.declared.call.Call.{Call}
 use Rattle.protocol.specs.declared.fault.Fault.{Fault}
 use Rattle.protocol.specs.declared.fault.Refusal.{Refusal}
-use Rattle.protocol.specs.declared.fault.Refusal.the-variants.{BadSize, BadStamp, BadMark, BadVersion, CutShort, BadLetter, TooManyRows}
+use Rattle.protocol.specs.declared.fault.Refusal.the-variants.{BadSize, BadStamp, BadMark, BadVersion}
+use Rattle.protocol.specs.declared.fault.Refusal.the-variants.{CutShort, BadLetter, TooManyRows}
 use Rattle.calls.specs.declared.file.BookKind.{BookKind}
 use Rattle.calls.specs.declared.file.BookKind.the-variants.{Exact, Condensed}
 use Rattle.calls.specs.declared.file.Row.{Row}

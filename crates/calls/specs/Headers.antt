@@ -6,8 +6,13 @@ use mathlib.Core.Path.{_≡_}
 use lib.ListN.{length, getD}
 use lib.Dec.{eqb}
 use Rattle.std.specs.declared.option.Option.the-variants.{Some}
-use Rattle.calls.specs.Format.{marked, two-bytes, book-named, sized, warps, lines}
+use Rattle.calls.specs.Format.{header-fault, marked, two-bytes, book-named, sized, warps, lines}
+use Rattle.protocol.specs.declared.fault.Fault.{Fault}
 use Rattle.calls.specs.declared.header.Shape.{Shape}
+
+-- A header is damaged, and a fault says how.
+abbrev pub Damaged-by : List ℕ → Fault → Type 0
+Damaged-by bytes fault = header-fault bytes ≡ Some fault
 
 -- The marks and the version are right, and the rest follows them.
 pub record Versioned (bytes rest : List ℕ) : Type 0 where

@@ -27,8 +27,8 @@ pub enum Row {
     Faulty(Fault),
 }
 
-/// A file whose header is sound: the machine to make, the calls to make of it, and what is wrong with the first row that
-/// names no call, if there is one.
+/// A file whose header is sound: the machine to make, the calls to make of it, and what is wrong with the first row
+/// that names no call, if there is one.
 #[derive(Drop)]
 pub struct CallsFile {
     pub book: BookKind,

@@ -8,8 +8,8 @@ ghost use Rattle.std.specs.Results.{Cases};
 ghost use Rattle.std.specs.Vec.{made};
 ghost use Rattle.std.specs.Of.Vec.{vec-items};
 ghost use Rattle.std.specs.declared.option.Option.the-variants.{Some};
-ghost use Rattle.calls.specs.Format.{book-named, header-fault, four-bytes, numbers, late-stamp};
-ghost use Rattle.calls.specs.Headers.{Versioned, Shaped};
+ghost use Rattle.calls.specs.Format.{book-named, four-bytes, numbers, late-stamp};
+ghost use Rattle.calls.specs.Headers.{Versioned, Shaped, Damaged-by};
 use crate::file::BookKind;
 use protocol::fault::Fault;
 use protocol::fault::Refusal;
@@ -46,7 +46,7 @@ impl BookKind {
 
 /// The part of the header that stands before the first stamps.
 pub fn read_shape(bytes: &[u8]) -> Result<Shape, Fault>
-    ensures { λ r. ⌜ Cases r (λ shape. Shaped (now (bytes .entry)) shape) (λ fault. header-fault (now (bytes .entry)) ≡ Some fault) ⌝ }
+    ensures { λ r. ⌜ Cases r (Shaped (now (bytes .entry))) (Damaged-by (now (bytes .entry))) ⌝ }
 {
     let rest = after_version(bytes)?;
     let [letter, sizes @ ..] = rest else {
@@ -68,7 +68,7 @@ pub fn read_shape(bytes: &[u8]) -> Result<Shape, Fault>
 
 // What follows the marks and the version.
 fn after_version(bytes: &[u8]) -> Result<&[u8], Fault>
-    ensures { λ r. ⌜ Cases r (λ rest. Versioned (now (bytes .entry)) (now rest)) (λ fault. header-fault (now (bytes .entry)) ≡ Some fault) ⌝ }
+    ensures { λ r. ⌜ Cases r (λ rest. Versioned (now (bytes .entry)) (now rest)) (Damaged-by (now (bytes .entry))) ⌝ }
 {
     match bytes {
         [b'G', b'T', b'M', high, low, rest @ ..] => {

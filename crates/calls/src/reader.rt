@@ -20,8 +20,8 @@ use std::alloc::Global;
 /// The first stamps stand here, after the marks, the version, the book's letter and the sizes.
 const STAMPS_PLACE: usize = 9;
 
-/// What a calls file says. A damaged header is told by the first of its checks that fails; a damaged row is told after the
-/// calls before it.
+/// What a calls file says. A damaged header is told by the first of its checks that fails; a damaged row is told after
+/// the calls before it.
 pub fn read(heap: Global, bytes: &[u8]) -> Result<CallsFile, ReadError>
     ensures { λ r. ⌜ Reads (now (bytes .entry)) r ⌝ }
 {

@@ -28,21 +28,22 @@ module _ (number : ℕ) (digits : List ℕ) (first rest : ℕ) (w : Written numb
   tenfold = rw (add-one, pow-suc) at (w .room)
 
   pub one-digit-more :
-    10 ≤ rest → (d : ℕ) → d ≡ 48 + rest % 10 → Written number (set digits first d) (first - 1) (rest / 10)
+      10 ≤ rest → (d : ℕ) → d ≡ 48 + rest % 10 → Written number (set digits first d) (first - 1) (rest / 10)
   one-digit-more h d is =
       let before = tens-place first rest tenfold h in
       let back : first - 1 + 1 ≡ first = omega arith in
       let ten = tenfold in
-      record
-        { size = length-set _ _ _ ∙ w .size;
-          within = omega arith;
-          room = rw back (omega arith);
-          small = omega arith;
-          whole = rw (back, is) (digit-before h before) }
+      record {
+        size = length-set _ _ _ ∙ w .size;
+        within = omega arith;
+        room = rw back (omega arith);
+        small = omega arith;
+        whole = rw (back, is) (digit-before h before);
+      }
     where
       digit-before :
-        10 ≤ rest → 0 < first
-        → decimal number ≡ decimal (rest / 10) ++ drop first (set digits first (48 + rest % 10))
+          10 ≤ rest → 0 < first
+          → decimal number ≡ decimal (rest / 10) ++ drop first (set digits first (48 + rest % 10))
       digit-before h before =
           w .whole ∙ ap (λ ds. ds ++ drop (first + 1) digits) (decimal-step rest h (w .small))
           ∙ append-assoc (decimal (rest / 10)) ((48 + rest % 10) ∷ []) (drop (first + 1) digits)

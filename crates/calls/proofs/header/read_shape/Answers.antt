@@ -26,7 +26,9 @@ returns-then-warps-eq0 c =
     let some : isSome (book-named (getD bytes 5 0)) ≡ true =
     rw (← (h .follows 0), ← (c .named .ensures), c .in-Some .is) in
     let w = warps-at bytes rest (h .follows) (c .from-warps .result) (c .from-warps .ensures) in
-    let l = lines-at bytes rest (h .follows) (c .from-lines .result) (c .from-lines .ensures ∙ c .from-be-bytes .ensures) in
+    let l =
+    lines-at bytes rest (h .follows) (c .from-lines .result)
+    (c .from-lines .ensures ∙ c .from-be-bytes .ensures) in
     let not-sized : sized bytes ≡ false = grind (arith, tells) in
     rw (c .in-file-then-warps-eq0 .ensures) (wrong-size bytes (h .marks) (h .version) some not-sized)
 
@@ -36,7 +38,9 @@ returns c =
     let rest = c .in-Continue-rest .rest .now in
     let h = c .in-Continue-rest .ensures tt in
     let w = warps-at bytes rest (h .follows) (c .from-warps .result) (c .from-warps .ensures) in
-    let l = lines-at bytes rest (h .follows) (c .from-lines .result) (c .from-lines .ensures ∙ c .from-be-bytes .ensures) in
+    let l =
+    lines-at bytes rest (h .follows) (c .from-lines .result)
+    (c .from-lines .ensures ∙ c .from-be-bytes .ensures) in
     record {
       marks = h .marks;
       version = h .version;

@@ -1,0 +1,4 @@
+pub mod Filter
+pub mod Condensed
+pub mod Pages
+pub mod Shared

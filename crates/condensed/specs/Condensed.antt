@@ -63,8 +63,8 @@ or-else (Some place) other = Some place
 abbrev pub place-for : List Slot → ℕ → Option ℕ
 place-for slots line = or-else (slot-of slots line) (chosen (map slot-key slots))
 
--- A line in a slot is told from the slot, any other from the filter. A line without a number is told as one that no call
--- named yet.
+-- A line in a slot is told from the slot, any other from the filter. A line without a number is told as one that
+-- no call named yet.
 abbrev pub told-from : List Slot → List Stamps → ℕ → Option ℕ → Entry
 told-from slots filter line None = free-with (filter-told filter (indices-of line))
 told-from slots filter line (Some place) = getD slots place empty .entry

@@ -1,4 +1,5 @@
 //! What is asked of the machine, and how it refuses.
+pub mod answer;
 pub mod call;
 pub mod fault;
 pub mod limits;

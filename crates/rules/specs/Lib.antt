@@ -1,0 +1,17 @@
+pub mod Lists
+pub mod State
+pub mod Access
+pub mod Queue
+pub mod Refusals
+pub mod Serving
+pub mod Ending
+pub mod Steps
+pub mod Making
+pub mod Runs
+pub mod Transactions
+pub mod Ledger
+pub mod Account
+pub mod LogicalTime
+pub mod Laws
+pub mod Worked
+pub mod Examples

@@ -1,6 +1,5 @@
 //! Turns a calls file on standard input into its listing on standard output.
 use calls::reader::enough_bytes;
-use listing::listing::ListErrorError;
 use listing::listing::list;
 use std::error::AnyError;
 use std::io::Read;

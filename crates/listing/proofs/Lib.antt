@@ -1,3 +1,5 @@
 mod Digits
 mod Pieces
 mod MemRows
+mod CallRows
+mod Listed

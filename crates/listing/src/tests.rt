@@ -1,7 +1,4 @@
-//! Listings that need no machine, by example.
-use crate::listing::ListError;
-use crate::listing::ListErrorDebug;
-use crate::listing::ListErrorPartialEq;
+//! Small listings, by example.
 use crate::listing::list;
 use crate::text::Text;
 use std::alloc::Global;
@@ -11,13 +8,6 @@ use std::test::*;
 fn lists(heap: Global, bytes: &[u8], text: &[u8]) -> Result<(), Fail> {
     let listed = list(heap, bytes)?;
     check(listed.as_bytes() == text)
-}
-
-fn declined(heap: Global, bytes: &[u8]) -> Result<(), Fail> {
-    match list(heap, bytes) {
-        Ok(_) => Err(Fail::new("it was listed")),
-        Err(error) => check_eq(error, ListError::NeedsMachine),
-    }
 }
 
 fn written(heap: Global, number: u64, text: &[u8]) -> Result<(), Fail> {
@@ -43,7 +33,7 @@ fn damaged_headers(rt: LibcRuntime) -> Result<(), Fail> {
 }
 
 #[test]
-fn files_without_calls(rt: LibcRuntime) -> Result<(), Fail> {
+fn small_files(rt: LibcRuntime) -> Result<(), Fail> {
     let heap = rt.alloc();
     lists(
         heap,
@@ -65,9 +55,10 @@ fn files_without_calls(rt: LibcRuntime) -> Result<(), Fail> {
         b"GTM\x00\x01E\x01\x00\x01\x00\x00\x00\x00\x00\x00\x00\x07X1234567",
         b"bad 14 17\n",
     )?;
-    declined(
+    lists(
         heap,
-        b"GTM\x00\x01E\x01\x00\x01\x00\x00\x00\x00\x00\x00\x00\x07B1234567",
+        b"GTM\x00\x01E\x01\x00\x01\x00\x00\x00\x00\x00\x00\x00\x07B\x01\x00\x00\x00\x00\x00\x00",
+        b"1 B 1 no 1\nmem 0 7\n",
     )
 }
 

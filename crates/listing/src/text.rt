@@ -1,11 +1,16 @@
 //! Text that grows at its end, and the rows that need no machine.
 ghost use Prim.Native.Nat.{_+_, _<_};
 ghost use lib.ListN.{drop, length};
-ghost use mathlib.Core.List.{[], _++_};
+ghost use lib.Chars.{codes};
+ghost use mathlib.Core.List.{[], _∷_, _++_};
+ghost use Rattle.protocol.specs.Calls.{op-letter};
 ghost use mathlib.Core.Path.{_≡_};
 ghost use Rattle.std.specs.Vec.{made};
 ghost use Rattle.std.specs.Written.{decimal};
-ghost use Rattle.listing.specs.Rows.{written, pair-row, mem-row, bad-row};
+ghost use Rattle.listing.specs.Rows.{written, number-row, pair-row, mem-row, bad-row, answer-row, call-row};
+use protocol::answer::Answer;
+use protocol::call::Call;
+use protocol::call::Op;
 use protocol::fault::Fault;
 use std::alloc::AllocError;
 use std::alloc::Global;
@@ -67,6 +72,40 @@ impl Text {
         self.pair_row("bad ", u64::from(fault.refusal.number()), fault.number)
     }
 
+    /// The row of a call, by its place in the run from 1: its letter, its warp and its answer.
+    pub fn call_row(self, place: u64, call: Call, answer: Answer) -> Result<Text, AllocError>
+        ensures { λ r. ⌜ made r (λ t. written t ≡ written self ++ call-row place call answer) ⌝ }
+    {
+        self.number(place)?
+            .word(letter_word(call.op))?
+            .number(u64::from(call.warp))?
+            .answer(answer)
+    }
+
+    // The end of a call's row.
+    fn answer(self, answer: Answer) -> Result<Text, AllocError>
+        ensures { λ r. ⌜ made r (λ t. written t ≡ written self ++ (codes " " ++ answer-row answer)) ⌝ }
+    {
+        match answer {
+            Answer::Ok => self.word(" ok\n"),
+            Answer::Val { value } => self.number_row(" val ", u64::from(value)),
+            Answer::Wait => self.word(" wait\n"),
+            Answer::Gone { cause, next } => self.pair_row(
+                " gone ",
+                u64::from(cause.number()),
+                next,
+            ),
+            Answer::No { fault } => self.number_row(" no ", u64::from(fault.refusal.number())),
+        }
+    }
+
+    // A row of a word and a number.
+    fn number_row(self, word: &str, number: u64) -> Result<Text, AllocError>
+        ensures { λ r. ⌜ made r (λ t. written t ≡ written self ++ number-row (now (word .entry)) number) ⌝ }
+    {
+        self.word(word)?.number(number)?.word("\n")
+    }
+
     // A row of a word and two numbers.
     fn pair_row(self, word: &str, first: u64, second: u64) -> Result<Text, AllocError>
         ensures { λ r. ⌜ made r (λ t. written t ≡ written self ++ pair-row (now (word .entry)) first second) ⌝ }
@@ -76,6 +115,20 @@ impl Text {
             .word(" ")?
             .number(second)?
             .word("\n")
+    }
+}
+
+// A call's letter between two blanks.
+fn letter_word(op: Op) -> &'static str
+    ensures { λ r. ⌜ now r ≡ codes " " ++ (op-letter op ∷ codes " ") ⌝ }
+{
+    match op {
+        Op::Begin => " B ",
+        Op::Load { line: _ } => " L ",
+        Op::Store { line: _, value: _ } => " S ",
+        Op::Commit => " C ",
+        Op::Drop => " D ",
+        Op::Fetch => " F ",
     }
 }
 

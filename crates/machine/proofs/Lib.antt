@@ -1,0 +1,9 @@
+mod Folds
+mod Served
+mod Turning
+mod Ended
+mod Accessed
+mod Granted
+mod Stamps
+mod Covering
+mod Runs

@@ -1,0 +1,4 @@
+mod Loops
+pub mod Lanes
+mod Fitting
+mod Order

@@ -1,0 +1,14 @@
+-- The next place of the array has the number.
+use mathlib.Core.Path.{_≡_}
+use native.Mathlib.Omega.{arith}
+use lib.ListN.{length, take}
+use Rattle.tables.proofs.Loops.{front-length, front-push}
+use Rattle.tables.proofs.few.Few.push.Needs as need
+
+pub returns : need.returns
+returns c =
+    let f = c .args .self in
+    let size = f .size in
+    let room = f .room in
+    let long : length (take (f .len) (f .items)) ≡ f .len = front-length (f .items) (f .len) (omega arith) in
+    front-push (f .items) (f .len) (c .args .number) (let p = c .pre in omega arith)

@@ -1,0 +1,5 @@
+pub mod Lists
+pub mod Rows
+pub mod Sound
+pub mod Pages
+pub mod Turns

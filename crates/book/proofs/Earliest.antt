@@ -120,7 +120,7 @@ module _ (k : Kind) (keeps : Keeps k) where
         follows_with s (k.release s line) e f line lt (entry_freed (entry_at e line)) 0 there.0 here.0 grows
         (omega arith)
         (mark_chain _ (k.read_mark s line) _ (f.marks line lt) (grows.mark_grows line lt))
-        (sym there.1.no_Stores) (λ n l ne. (there.1.stays n l ne).same_stores)
+        (sym there.1.no_stores) (λ n l ne. (there.1.stays n l ne).same_stores)
 
   Followed : k.State × Exact → Type 0
   Followed both = Follows both.0 both.1

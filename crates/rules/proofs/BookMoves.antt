@@ -140,7 +140,7 @@ module _ (k : Kind) (keeps : Keeps k) where
           let n = keeps.releases s good line can in
           let free : k.owner (k.release s line) line ≡ None =
           (keeps.tells (k.release s line) n.0 line (ltb-true line line_limit can)).ownerless
-          (ap (λ c. not (eqb c 0)) n.1.no_Stores)
+          (ap (λ c. not (eqb c 0)) n.1.no_stores)
           in
           let away : (at : ℕ) → line ≡ at → k.owner (k.release s line) at ≡ None =
           λ at e. subst (λ z. k.owner (k.release s line) z ≡ None) e free

@@ -12,10 +12,10 @@ returns-in-71-2 c =
     let bytes = c.args.bytes.now in
     let m : marked bytes ≡ true = grind (arith, nat_tests) in
     let v : eqb (two_bytes bytes 3) 1 ≡ false = grind (arith, nat_tests, get_or_past bytes 4 0) in
-    rw c.in-file.ensures (wrong_version bytes m v)
+    rw c.in_file.ensures (wrong_version bytes m v)
 
-pub returns-else-from-be-bytes-ne-VERSION : goal.returns-else-from-be-bytes-ne-VERSION
-returns-else-from-be-bytes-ne-VERSION c =
+pub returns-else-from_be_bytes-ne-VERSION : goal.returns-else-from_be_bytes-ne-VERSION
+returns-else-from_be_bytes-ne-VERSION c =
     let bytes = c.args.bytes.now in
     record {
       marks = grind (arith, nat_tests);
@@ -24,8 +24,8 @@ returns-else-from-be-bytes-ne-VERSION c =
       follows = tail_at bytes 5;
     }
 
-pub returns-in-default : goal.returns-in-default
-returns-in-default c =
+pub returns-in_default : goal.returns-in_default
+returns-in_default c =
     let bytes = c.args.bytes.now in
     let m : marked bytes ≡ false = grind (arith, nat_tests, get_or_past bytes 2 0) in
-    rw c.in-file-in-default.ensures (wrong_mark bytes m)
+    rw c.in_file-in_default.ensures (wrong_mark bytes m)

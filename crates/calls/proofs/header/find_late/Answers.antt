@@ -6,8 +6,8 @@ use Rattle.calls.specs.Format.{late_stamp}
 use Rattle.calls.proofs.NumberSteps.{is_late, not_late}
 use Rattle.calls.proofs.header.find_late.Goals as goal
 
-pub returns-then-is-late : goal.returns-then-is-late
-returns-then-is-late c =
+pub returns-then-is_late : goal.returns-then-is_late
+returns-then-is_late c =
     sym
     (c.loop-i.invariant
     ∙ is_late c.args.stamps.now c.args.place c.loop-i.i (omega arith) (grind (arith, nat_tests)))

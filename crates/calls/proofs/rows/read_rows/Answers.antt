@@ -21,11 +21,11 @@ returns-in-Faulty c =
 pub loop-row-preserved : goal.loop-row-preserved
 loop-row-preserved c =
     let l = c.loop-row in
-    simp c.in-ok-push.ensures.items
+    simp c.in_ok-push-in-Made.ensures.items
     (one_more _ _ _ _ _ l.invariant c.loop-row-test.true _ c.in-Made.ensures.value)
 
 pub returns : goal.returns
 returns c =
     let l = c.loop-row in
     let p = at_limit _ _ _ _ _ l.invariant (omega arith) in
-    record { calls = p.0; fault = c.after-last-fault.ensures ∙ p.1 }
+    record { calls = p.0; fault = c.after_last-fault.ensures ∙ p.1 }

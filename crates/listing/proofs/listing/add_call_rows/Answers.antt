@@ -8,8 +8,8 @@ use Rattle.listing.proofs.listing.add_call_rows.Goals as goal
 pub loop-i-preserved : goal.loop-i-preserved
 loop-i-preserved c =
     one_call_more c.args.calls.now c.args.answers.now c.loop-i.i (c.loop-i.i + 1) _ _
-    (omega arith) (omega arith) _ (written c.loop-i.all) (written c.in-ok-all.all) c.loop-i.invariant
-    c.in-ok-all.ensures
+    (omega arith) (omega arith) _ (written c.loop-i.all) (written c.in_ok-all.all) c.loop-i.invariant
+    c.in_ok-all.ensures
 
 pub returns : goal.returns
 returns c =

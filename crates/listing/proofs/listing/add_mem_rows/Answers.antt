@@ -9,12 +9,12 @@ use Rattle.listing.proofs.listing.add_mem_rows.Goals as goal
 pub loop-line-preserved : goal.loop-line-preserved
 loop-line-preserved g c =
     one_line_more (g.M.Memory.at c.args.machine.now.memory) c.loop-line.line (written c.args.text)
-    (written c.loop-line.all) (written c.in-ok-all.all) c.loop-line.invariant
-    c.in-ok-all.ensures
+    (written c.loop-line.all) (written c.in_ok-all.all) c.loop-line.invariant
+    c.in_ok-all.ensures
 
-pub returns-in-err-all : goal.returns-in-err-all
-returns-in-err-all g c =
-    let p = err_from_is_err_and c.from-residual.result c.from-residual.ensures.1 in
+pub returns-in_err-all : goal.returns-in_err-all
+returns-in_err-all g c =
+    let p = err_from_is_err_and c.from_residual.result c.from_residual.ensures.1 in
     rw p.1 tt
 
 pub returns : goal.returns

@@ -7,15 +7,15 @@ use Rattle.listing.proofs.listing.list_file.Goals as goal
 
 pub returns-in-Exact : goal.returns-in-Exact
 returns-in-Exact c =
-    exact_listed c.list-run.result c.args.file c.in-Exact.is
-    (listed_alike exact c.list-run.result _ exact_new _ _ _ _ _ _ _ _ c.new.ensures.value
-    c.as-slice.ensures.value c.as-mut-slice.ensures.value c.as-slice-in-Exact.ensures.value
-    (c.len-limit.ensures ∙ c.args.file.values.ok.0) c.list-run.ensures)
+    exact_listed c.list_run.result c.args.file c.in-Exact.is
+    (listed_alike exact c.list_run.result _ exact_new _ _ _ _ _ _ _ _ c.new.ensures.value
+    c.as_slice.ensures.value c.as_mut_slice.ensures.value c.as_slice-in-Exact.ensures.value
+    (c.len-limit.ensures ∙ c.args.file.values.ok.0) c.list_run.ensures)
 
 pub returns : goal.returns
 returns c =
-    condensed_listed c.list-run-in-Condensed.result c.args.file c.in-Condensed.is
-    (listed_alike condensed c.list-run-in-Condensed.result _ condensed_new _ _ _ _ _ _ _ _
-    c.new-in-Condensed.ensures.value c.as-slice-in-Condensed.ensures.value
-    c.as-mut-slice.ensures.value c.as-slice-in-Condensed-2.ensures.value
-    (c.len-limit.ensures ∙ c.args.file.values.ok.0) c.list-run-in-Condensed.ensures)
+    condensed_listed c.list_run-in-Condensed.result c.args.file c.in-Condensed.is
+    (listed_alike condensed c.list_run-in-Condensed.result _ condensed_new _ _ _ _ _ _ _ _
+    c.new-in-Condensed.ensures.value c.as_slice-in-Condensed.ensures.value
+    c.as_mut_slice.ensures.value c.as_slice-in-Condensed-2.ensures.value
+    (c.len-limit.ensures ∙ c.args.file.values.ok.0) c.list_run-in-Condensed.ensures)

@@ -3,8 +3,8 @@ use Rattle.std.proofs.Common.{arith}
 use Rattle.machine.proofs.Stamps.{late_here, late_later, late_nowhere}
 use Rattle.machine.proofs.making.first_late.Goals as goal
 
-pub returns-then-stamp-gt-LAST-STAMP : goal.returns-then-stamp-gt-LAST-STAMP
-returns-then-stamp-gt-LAST-STAMP c =
+pub returns-then-stamp-gt-LAST_STAMP : goal.returns-then-stamp-gt-LAST_STAMP
+returns-then-stamp-gt-LAST_STAMP c =
     late_here c.args.stamps.now c.loop-stamp.stamp-index c.loop-stamp.invariant (omega arith) (omega arith)
 
 pub loop-stamp-preserved : goal.loop-stamp-preserved

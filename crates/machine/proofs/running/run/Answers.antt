@@ -11,8 +11,8 @@ use Rattle.machine.proofs.running.run.Goals as goal
 pub loop-call-init : goal.loop-call-init
 loop-call-init g c = record { same_machine = refl; same_answers = c.new-answers.ensures.items }
 
-pub returns-in-err-push : goal.returns-in-err-push
-returns-in-err-push g c =
+pub returns-in_err-push : goal.returns-in_err-push
+returns-in_err-push g c =
     let k = g.B.Book.kind in
     let lines = g.M.Memory.at c.args.memory in
     let book = g.B.Book.model c.args.book in
@@ -21,8 +21,8 @@ returns-in-err-push g c =
     let stamps = c.args.stamps.now in
     let calls = c.args.calls.now in
     record {
-      rules = IfOk-from_err c.from-residual.result _ c.from-residual.ensures.0;
-      shape = IfOk-from_err c.from-residual.result _ c.from-residual.ensures.0;
+      rules = IfOk-from_err c.from_residual.result _ c.from_residual.ensures.0;
+      shape = IfOk-from_err c.from_residual.result _ c.from_residual.ensures.0;
       accounts = accounts_hold k keeps lines book good stamps calls;
       waits = waits_hold k keeps lines book good stamps calls;
     }
@@ -35,7 +35,7 @@ loop-call-preserved g c =
     (state g.M.Memory.at g.B.Book.kind g.B.Book.model l.machine)
     (state g.M.Memory.at g.B.Book.kind g.B.Book.model c.call-answer.new.self)
     (vec_items l.answers) _ c.call-answer.result (omega arith) refl l.invariant
-    c.call-answer.ensures.after c.call-answer.ensures.answer c.in-ok-push.ensures.items
+    c.call-answer.ensures.after c.call-answer.ensures.answer c.in_ok-push.ensures.items
 
 pub returns : goal.returns
 returns g c =

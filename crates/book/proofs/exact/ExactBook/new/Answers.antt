@@ -3,8 +3,8 @@ use Rattle.std.proofs.Common.{refl}
 use Rattle.book.specs.ExactKeeps.{good_new, new_exact}
 use Rattle.book.proofs.exact.ExactBook.new.Goals as goal
 
-pub invariant-of-result : goal.invariant-of-result
-invariant-of-result c = (good_new.0, (good_new.1, (good_new.2, (good_new.3, tt))))
+pub invariant_of-result : goal.invariant_of-result
+invariant_of-result c = record { whole = good_new.0; written = good_new.1; read = good_new.2; stamped = good_new.3 }
 
 pub returns : goal.returns
 returns c = record { value = refl; new = new_exact }

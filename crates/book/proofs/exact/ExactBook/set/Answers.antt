@@ -4,8 +4,8 @@ use Rattle.book.specs.Exact.{Exact, FitsBy}
 use Rattle.book.specs.ExactKeeps.{good_with}
 use Rattle.book.proofs.exact.ExactBook.set.Goals as goal
 
-pub invariant-of-self : goal.invariant-of-self
-invariant-of-self c =
+pub invariant_of-self : goal.invariant_of-self
+invariant_of-self c =
     let b = c.args.self.now in
     let s : Exact = record { entries = b.entries; latest = b.latest } in
     let later = c.max-self.result in
@@ -13,4 +13,4 @@ invariant-of-self c =
     let fits : FitsBy later c.args.entry = subst (λ m. FitsBy m c.args.entry) (sym c.max-self.ensures)
     c.requires.1 in
     let good = good_with s (b.whole, b.written, b.read, b.stamped) c.args.line c.args.entry later up fits in
-    (good.0, (good.1, (good.2, (good.3, tt))))
+    record { whole = good.0; written = good.1; read = good.2; stamped = good.3 }

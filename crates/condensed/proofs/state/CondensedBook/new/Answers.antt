@@ -9,10 +9,21 @@ use Rattle.condensed.specs.PagesLemmas.{facts_of}
 use Rattle.condensed.proofs.SharedMark.{shared_mark}
 use Rattle.condensed.proofs.state.CondensedBook.new.Goals as goal
 
-pub invariant-of-result : goal.invariant-of-result
-invariant-of-result c =
+pub invariant_of-result : goal.invariant_of-result
+invariant_of-result c =
+    let f =
     facts_of (record { slots = replicate 16 empty; filter = c.new.result.entries; latest = 0 }) condensed_new
-    (ap (λ f. record { slots = replicate 16 empty; filter = f; latest = 0 }) c.new.ensures) sound_new
+    (ap (λ f. record { slots = replicate 16 empty; filter = f; latest = 0 }) c.new.ensures) sound_new in
+    record {
+      sixteen = f.sixteen;
+      apart = f.apart;
+      numbered = f.numbered;
+      written = f.slots_written;
+      read = f.slots_read;
+      filter_written = f.filter_written;
+      filter_read = f.filter_read;
+      stamped = f.slots_stamped;
+    }
 
 pub returns : goal.returns
 returns c =
@@ -22,6 +33,6 @@ returns c =
     record {
       value = is;
       new = subst (New condensed) (sym is) new_condensed;
-      never-earlier = exact_is_earliest condensed condensed_keeps;
+      never_earlier = exact_is_earliest condensed condensed_keeps;
       example = shared_mark;
     }

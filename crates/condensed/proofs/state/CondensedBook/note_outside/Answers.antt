@@ -6,8 +6,8 @@ use Rattle.condensed.specs.CondensedKeeps.{sound_outside}
 use Rattle.condensed.specs.PagesLemmas.{sound_page, facts_of}
 use Rattle.condensed.proofs.state.CondensedBook.note_outside.Goals as goal
 
-pub invariant-of-self : goal.invariant-of-self
-invariant-of-self c =
+pub invariant_of-self : goal.invariant_of-self
+invariant_of-self c =
     let b = c.args.self.now in
     let s : Condensed = condensed_page b in
     let after : Condensed = record {
@@ -17,5 +17,16 @@ invariant-of-self c =
           c.max-self.result;
     } in
     let is : after ≡ note_in s c.args.line c.args.time None = cc in
+    let f =
     facts_of after (note_in s c.args.line c.args.time None) is
-    (sound_outside s (sound_page b) c.args.line c.args.time)
+    (sound_outside s (sound_page b) c.args.line c.args.time) in
+    record {
+      sixteen = f.sixteen;
+      apart = f.apart;
+      numbered = f.numbered;
+      written = f.slots_written;
+      read = f.slots_read;
+      filter_written = f.filter_written;
+      filter_read = f.filter_read;
+      stamped = f.slots_stamped;
+    }

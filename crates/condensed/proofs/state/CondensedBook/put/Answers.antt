@@ -6,14 +6,25 @@ use Rattle.condensed.specs.CondensedKeeps.{sound_put}
 use Rattle.condensed.specs.PagesLemmas.{sound_page, facts_of}
 use Rattle.condensed.proofs.state.CondensedBook.put.Goals as goal
 
-pub invariant-of-self : goal.invariant-of-self
-invariant-of-self c =
+pub invariant_of-self : goal.invariant_of-self
+invariant_of-self c =
     let b = c.args.self.now in
     let s : Condensed = condensed_page b in
     let written = in_slot s c.args.line c.args.place c.args.entry in
     let after : Condensed = record { slots = written; filter = b.filter.entries; latest = c.max-self.result } in
     let is : after ≡ with_slot s c.args.line c.args.place c.args.entry c.args.stamp =
     ap (λ m. record { slots = written; filter = b.filter.entries; latest = m }) c.max-self.ensures in
+    let f =
     facts_of after _ is
     (sound_put s (sound_page b) c.args.line c.requires.numbered c.args.entry c.args.place _
-    c.requires.its-place.0 (omega arith) c.requires.fits)
+    c.requires.its_place.0 (omega arith) c.requires.fits) in
+    record {
+      sixteen = f.sixteen;
+      apart = f.apart;
+      numbered = f.numbered;
+      written = f.slots_written;
+      read = f.slots_read;
+      filter_written = f.filter_written;
+      filter_read = f.filter_read;
+      stamped = f.slots_stamped;
+    }

@@ -5,9 +5,9 @@ use Rattle.listing.proofs.text.Text.number.Goals as goal
 
 pub returns : goal.returns
 returns c =
-    let made = c.decimal-digits-first in
+    let made = c.decimal_digits-first in
     let digits = made.result.0 in
     let first = made.result.1 in
     let all = take_all (20 - first) (drop first digits) (simp length-drop (omega (arith, made.ensures.size))) in
-    c.in-ok-extend-from-slice.ensures.items
+    c.in_ok-extend_from_slice.ensures.items
     ∙ ap (λ piece. vec_items c.args.self.bytes ++ piece) (all ∙ made.ensures.digits)

@@ -8,4 +8,4 @@ pub returns : goal.returns
 returns c =
     three_pieces c.word-2.result (written c.args.self) _ _
     c.args.word.now (decimal c.args.number) (codes "\n")
-    c.in-ok-word.ensures c.in-ok-number.ensures c.word-2.ensures
+    c.in_ok-word.ensures c.in_ok-number.ensures c.word-2.ensures

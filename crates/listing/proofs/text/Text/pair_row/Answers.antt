@@ -8,5 +8,5 @@ pub returns : goal.returns
 returns c =
     five_pieces c.word-3.result (written c.args.self) _ _ _ _
     c.args.word.now (decimal c.args.first) (codes " ") (decimal c.args.second) (codes "\n")
-    c.in-ok-word.ensures c.in-ok-number.ensures
-    c.in-ok-word-2.ensures c.in-ok-number-2.ensures c.word-3.ensures
+    c.in_ok-word.ensures c.in_ok-number.ensures
+    c.in_ok-word-2.ensures c.in_ok-number-2.ensures c.word-3.ensures

@@ -10,10 +10,10 @@ returns-in-OwnLine g c =
     let w = c.args.warp in
     let line = c.args.line in
     let access = c.args.access in
-    let done = by_verdict m w line access _ _ _ _ _ _ c.told.ensures c.time.ensures c.is-full-full.ensures
+    let done = by_verdict m w line access _ _ _ _ _ _ c.told.ensures c.time.ensures c.is_full-full.ensures
     c.in-OwnLine.ensures
-    (on_own_line m w line access _ c.serve-own.result _ c.serve-own.ensures.after
-    c.serve-own.ensures.answer c.answer.ensures) in
+    (on_own_line m w line access _ c.serve_own.result _ c.serve_own.ensures.after
+    c.serve_own.ensures.answer c.answer.ensures) in
     record { after = done.machine; answer = done.says }
 
 pub returns-in-Lost : goal.returns-in-Lost
@@ -22,7 +22,7 @@ returns-in-Lost g c =
     let w = c.args.warp in
     let line = c.args.line in
     let access = c.args.access in
-    let done = by_verdict m w line access _ _ _ _ _ _ c.told.ensures c.time.ensures c.is-full-full.ensures
+    let done = by_verdict m w line access _ _ _ _ _ _ c.told.ensures c.time.ensures c.is_full-full.ensures
     c.in-Lost.ensures
     (being_lost m w line access _ c.in-Lost.cause c.in-Lost.next c.end.ensures) in
     record { after = done.machine; answer = done.says }
@@ -33,7 +33,7 @@ returns-in-MustWait g c =
     let w = c.args.warp in
     let line = c.args.line in
     let access = c.args.access in
-    let done = by_verdict m w line access _ _ _ _ _ _ c.told.ensures c.time.ensures c.is-full-full.ensures
+    let done = by_verdict m w line access _ _ _ _ _ _ c.told.ensures c.time.ensures c.is_full-full.ensures
     c.in-MustWait.ensures
     (waiting_now m w line access (lanes c.wait.new.self) (queued c.wait.new.self)
     c.wait.ensures.lanes c.wait.ensures.queue) in
@@ -45,7 +45,7 @@ returns-in-GoOn g c =
     let w = c.args.warp in
     let line = c.args.line in
     let access = c.args.access in
-    let done = by_verdict m w line access _ _ _ _ _ _ c.told.ensures c.time.ensures c.is-full-full.ensures
+    let done = by_verdict m w line access _ _ _ _ _ _ c.told.ensures c.time.ensures c.is_full-full.ensures
     c.in-GoOn.ensures
     (going_on m w line access _ c.serve.result _ c.serve.ensures.after c.serve.ensures.answer
     c.answer-in-GoOn.ensures) in

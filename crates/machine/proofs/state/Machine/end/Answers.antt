@@ -11,8 +11,8 @@ pub returns : goal.returns
 returns g c =
     let m = state g.M.Memory.at g.B.Book.kind g.B.Book.model c.args.self.now in
     ended_is m c.args.warp c.args.stamp
-    (state g.M.Memory.at g.B.Book.kind g.B.Book.model c.release-all.new.self)
-    (state g.M.Memory.at g.B.Book.kind g.B.Book.model c.wake-all.new.self)
+    (state g.M.Memory.at g.B.Book.kind g.B.Book.model c.release_all.new.self)
+    (state g.M.Memory.at g.B.Book.kind g.B.Book.model c.wake_all.new.self)
     (lanes c.rest.new.self) (queued c.rest.new.self) (lines_in (log_of c.firsts-firsts.result))
-    (c.firsts-firsts.ensures ∙ ap logged_lines c.log.ensures) c.release-all.ensures
-    c.rest.ensures.lanes c.rest.ensures.queue c.wake-all.ensures
+    (c.firsts-firsts.ensures ∙ ap logged_lines c.log.ensures) c.release_all.ensures
+    c.rest.ensures.lanes c.rest.ensures.queue c.wake_all.ensures

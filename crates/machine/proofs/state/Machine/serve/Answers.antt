@@ -10,7 +10,7 @@ returns-in-Read g c =
     record {
       after = read_served m c.args.warp c.args.line _ c.args.access c.in-Read.is c.note.ensures;
       answer = read_value m c.args.warp c.args.line _ c.args.access c.in-Read.is
-          c.memory-value-value.ensures;
+          c.memory_value-value.ensures;
     }
 
 pub returns-in-Write : goal.returns-in-Write
@@ -20,11 +20,11 @@ returns-in-Write g c =
     let w = c.args.warp in
     let line = c.args.line in
     record {
-      after = write_served m w line mid (lanes c.log-store.new.self) _ c.in-Write.value c.args.access
+      after = write_served m w line mid (lanes c.log_store.new.self) _ c.in-Write.value c.args.access
           c.in-Write.is
           c.reserve.ensures
-          (log_lanes m w line mid.lanes (lanes c.log-store.new.self) c.of.result c.in-Write.value
-          c.of.ensures c.log-store.ensures.lanes)
-          c.log-store.ensures.queue;
+          (log_lanes m w line mid.lanes (lanes c.log_store.new.self) c.of.result c.in-Write.value
+          c.of.ensures c.log_store.ensures.lanes)
+          c.log_store.ensures.queue;
       answer = write_stored m w line c.in-Write.value c.args.access c.in-Write.is;
     }

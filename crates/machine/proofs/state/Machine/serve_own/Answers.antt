@@ -10,7 +10,7 @@ returns-in-Read g c =
     record {
       after = own_read_served m c.args.warp c.args.line _ c.args.access c.in-Read.is c.note.ensures;
       answer = own_read_value m c.args.warp c.args.line _ c.args.access c.in-Read.is
-          c.own-value-value.ensures;
+          c.own_value-value.ensures;
     }
 
 pub returns-in-Write : goal.returns-in-Write
@@ -19,11 +19,11 @@ returns-in-Write g c =
     let w = c.args.warp in
     let line = c.args.line in
     record {
-      after = own_write_served m w line (g.B.Book.model c.add.new.self) (lanes c.log-store.new.self) _
+      after = own_write_served m w line (g.B.Book.model c.add.new.self) (lanes c.log_store.new.self) _
           c.in-Write.value c.args.access c.in-Write.is
           c.add.ensures.after
-          (log_lanes m w line m.lanes (lanes c.log-store.new.self) c.of.result c.in-Write.value
-          c.of.ensures c.log-store.ensures.lanes)
-          c.log-store.ensures.queue;
+          (log_lanes m w line m.lanes (lanes c.log_store.new.self) c.of.result c.in-Write.value
+          c.of.ensures c.log_store.ensures.lanes)
+          c.log_store.ensures.queue;
       answer = own_write_stored m w line c.in-Write.value c.args.access c.in-Write.is;
     }

@@ -6,8 +6,8 @@ use Rattle.machine.specs.Meaning.{state}
 use Rattle.machine.proofs.Served.{log_lanes, read_through, write_through, settled_free, room_stays}
 use Rattle.machine.proofs.state.Machine.serve_waiting.Goals as goal
 
-pub log-store-requires : goal.log-store-requires
-log-store-requires g c =
+pub log_store-requires : goal.log_store-requires
+log_store-requires g c =
     let m = state g.M.Memory.at g.B.Book.kind g.B.Book.model c.args.self.now in
     let w = c.args.warp in
     let before = lanes c.reserve.new.self.tables in
@@ -24,8 +24,8 @@ returns-in-Read g c =
     let m = state g.M.Memory.at g.B.Book.kind g.B.Book.model c.args.self.now in
     let mid = state g.M.Memory.at g.B.Book.kind g.B.Book.model c.note.new.self in
     read_through m c.args.warp c.args.line mid (lanes c.settle.new.self) _
-    c.memory-value-value.result c.args.access c.in-Read.is
-    c.note.ensures c.memory-value-value.ensures c.settle.ensures.lanes c.settle.ensures.queue
+    c.memory_value-value.result c.args.access c.in-Read.is
+    c.note.ensures c.memory_value-value.ensures c.settle.ensures.lanes c.settle.ensures.queue
 
 pub returns-in-Write : goal.returns-in-Write
 returns-in-Write g c =
@@ -34,9 +34,9 @@ returns-in-Write g c =
     let w = c.args.warp in
     let line = c.args.line in
     let settled = lanes c.settle-in-Write.new.self in
-    write_through m w line mid settled (lanes c.log-store.new.self) (queued c.settle-in-Write.new.self) _
+    write_through m w line mid settled (lanes c.log_store.new.self) (queued c.settle-in-Write.new.self) _
     c.in-Write.value c.args.access c.in-Write.is c.reserve.ensures
     c.settle-in-Write.ensures.lanes c.settle-in-Write.ensures.queue
-    (log_lanes m w line settled (lanes c.log-store.new.self) c.of.result c.in-Write.value
-    c.of.ensures c.log-store.ensures.lanes)
-    c.log-store.ensures.queue
+    (log_lanes m w line settled (lanes c.log_store.new.self) c.of.result c.in-Write.value
+    c.of.ensures c.log_store.ensures.lanes)
+    c.log_store.ensures.queue

@@ -9,10 +9,10 @@ use Rattle.machine.proofs.Served.{settled_is}
 use Rattle.machine.proofs.Turning.{not_tried, try_by, tried_lost, tried_on, tried_own, tried_again, verdict_here}
 use Rattle.machine.proofs.state.Machine.try_turn.Goals as goal
 
-pub returns-in-default : goal.returns-in-default
-returns-in-default g c =
+pub returns-in_default : goal.returns-in_default
+returns-in_default g c =
     let m = state g.M.Memory.at g.B.Book.kind g.B.Book.model c.args.self.now in
-    not_tried m c.args.warp c.args.line c.in-default.ensures.value
+    not_tried m c.args.warp c.args.line c.in_default.ensures.value
 
 pub returns-in-Lost : goal.returns-in-Lost
 returns-in-Lost g c =
@@ -32,7 +32,7 @@ returns-in-GoOn g c =
     let w = c.args.warp in
     let line = c.args.line in
     let access = c.in-Some.access in
-    c.serve-waiting.ensures
+    c.serve_waiting.ensures
     ∙ tried_on m w line access
     ∙ try_by m w line access _ c.in-Some.ensures.value
     (verdict_here m w line access _ _ _ c.told.ensures c.time.ensures c.in-GoOn.ensures)

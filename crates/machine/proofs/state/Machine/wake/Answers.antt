@@ -13,8 +13,8 @@ loop-place-preserved g c =
     let l = c.loop-place in
     let turns = few c.turns-turns.result in
     fold_more (try_at c.args.line) m (state g.M.Memory.at g.B.Book.kind g.B.Book.model l.self)
-    (state g.M.Memory.at g.B.Book.kind g.B.Book.model c.try-turn.new.self) turns l.place
-    c.at.result 0 (omega arith) l.invariant c.at.ensures c.try-turn.ensures
+    (state g.M.Memory.at g.B.Book.kind g.B.Book.model c.try_turn.new.self) turns l.place
+    c.at.result 0 (omega arith) l.invariant c.at.ensures c.try_turn.ensures
 
 pub returns : goal.returns
 returns g c =

@@ -11,7 +11,7 @@ loop-place-preserved g c =
     let l = c.loop-place in
     let stores = log_of c.log-log.result in
     let low : l.place < length stores = omega arith in
-    c.write-store.ensures
+    c.write_store.ensures
     ∙ write_more m (state g.M.Memory.at g.B.Book.kind g.B.Book.model l.self) _ stores l.place
     (pair_of c.at.result) low l.invariant c.at.ensures refl
 

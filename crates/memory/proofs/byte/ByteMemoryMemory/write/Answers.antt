@@ -7,7 +7,7 @@ pub returns : goal.returns
 returns c =
     record {
       answer = search rules;
-      after = line_written _ _ _ c.if-place-self.false (omega arith) _ c.to-le-bytes.ensures;
+      after = line_written _ _ _ c.if-place-self.false (omega arith) _ c.to_le_bytes.ensures;
       lender = search rules;
       untouched = odd_bytes_stay _ _ c.if-place-self.false _ _ _ _;
     }

@@ -12,7 +12,7 @@ loop-place-preserved c =
     let room = f.room in
     let l = c.loop-place in
     let lt : l.place < length f.places = omega arith in
-    let is = c.push-new-lines.ensures in (
+    let is = c.push_new-lines.ensures in (
       is ∙ distinct_more f.places l.place _ lt l.invariant.0,
       new_length _ _ l.place _ is l.invariant.1,
     )

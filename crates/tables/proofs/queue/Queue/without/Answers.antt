@@ -10,7 +10,7 @@ loop-place-preserved c =
     let room = f.room in
     let l = c.loop-place in
     let lt : l.place < length f.places = omega arith in
-    let is = c.unless-of-others.ensures in (
+    let is = c.unless_of-others.ensures in (
       is ∙ without_more f.places c.args.warp l.place _ lt l.invariant.0,
       kept_length c.args.warp _ _ l.place _ is l.invariant.1,
     )

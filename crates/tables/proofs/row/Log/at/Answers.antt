@@ -30,8 +30,8 @@ returns c =
     let low = c.requires in
     sym (logged_at f.stores f.len c.args.place _ (omega arith) (omega arith))
 
-pub offset-bounds-self-place : goal.offset-bounds-self-place
-offset-bounds-self-place c =
+pub offset_bounds-self-place : goal.offset_bounds-self-place
+offset_bounds-self-place c =
     let f = c.args.self.now in
     let size = f.size in
     let room = f.room in

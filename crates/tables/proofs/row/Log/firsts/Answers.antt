@@ -10,7 +10,7 @@ loop-place-preserved c =
     let room = f.room in
     let l = c.loop-place in
     let lt : l.place < length f.stores = omega arith in
-    let is = c.with-first-firsts.ensures in (
+    let is = c.with_first-firsts.ensures in (
       firsts_more f.stores l.place _ _ _ c.index-self-place.result lt refl is l.invariant.0,
       first_length _ _ l.place _ is l.invariant.1,
     )

@@ -2,10 +2,10 @@
 use Rattle.tables.proofs.Lanes.{log_whole, log_is_of, log_is_not}
 use Rattle.tables.proofs.row.Row.log.Goals as goal
 
-pub returns-in-default : goal.returns-in-default
-returns-in-default c =
+pub returns-in_default : goal.returns-in_default
+returns-in_default c =
     let row = c.args.self.now in
-    log_whole row.len row.stores row.size (log_is_not row.len row.stores c.in-default.ensures)
+    log_whole row.len row.stores row.size (log_is_not row.len row.stores c.in_default.ensures)
 
 pub returns : goal.returns
 returns c =

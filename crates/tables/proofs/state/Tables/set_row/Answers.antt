@@ -7,23 +7,20 @@ use Rattle.tables.proofs.Fitting.{no_request_of, sound_set, row_waits}
 use Rattle.tables.proofs.Lanes.{lanes_set, lanes_set_past}
 use Rattle.tables.proofs.state.Tables.set_row.Goals as goal
 
-pub invariant-of-self : goal.invariant-of-self
-invariant-of-self c =
+pub invariant_of-self : goal.invariant_of-self
+invariant_of-self c =
     let t = c.args.self.now in
     let table = t.table in
     let count = t.count in
     let w = c.args.warp in
-    let free = row_waits t.warps t.rows w _ (omega arith) (omega arith) c.requires in (
-      length-set t.rows w c.args.row ∙ table,
-      (
-        count,
-        (
+    let free = row_waits t.warps t.rows w _ (omega arith) (omega arith) c.requires in
+    record {
+      table = length-set t.rows w c.args.row ∙ table;
+      count = count;
+      sound =
           sound_set t.rows (places t.queue) w c.args.row t.sound
-              (no_request_of t.rows (places t.queue) w t.sound free),
-          tt,
-        ),
-      ),
-    )
+          (no_request_of t.rows (places t.queue) w t.sound free);
+    }
 
 pub returns-then-place-self : goal.returns-then-place-self
 returns-then-place-self c =

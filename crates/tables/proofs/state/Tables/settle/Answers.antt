@@ -7,19 +7,16 @@ use Rattle.tables.proofs.Fitting.{sound_without, sound_settled}
 use Rattle.tables.proofs.Lanes.{lanes_set_past, lanes_in_phase}
 use Rattle.tables.proofs.state.Tables.settle.Goals as goal
 
-pub invariant-of-self : goal.invariant-of-self
-invariant-of-self c =
-    let t = c.args.self.now in (
-      t.table,
-      (
-        t.count,
-        (
+pub invariant_of-self : goal.invariant_of-self
+invariant_of-self c =
+    let t = c.args.self.now in
+    record {
+      table = t.table;
+      count = t.count;
+      sound =
           subst (Sound t.rows) (sym c.without-queue.ensures)
-              (sound_without t.rows (places t.queue) c.args.warp t.sound),
-          tt,
-        ),
-      ),
-    )
+          (sound_without t.rows (places t.queue) c.args.warp t.sound);
+    }
 
 pub returns-then-place-self : goal.returns-then-place-self
 returns-then-place-self c =
@@ -31,19 +28,16 @@ returns-then-place-self c =
       queue = c.without-queue.ensures;
     }
 
-pub invariant-of-self-2 : goal.invariant-of-self-2
-invariant-of-self-2 c =
-    let t = c.args.self.now in (
-      length-set t.rows c.args.warp c.in-phase-row.result ∙ t.table,
-      (
-        t.count,
-        (
-          subst (Sound (set t.rows c.args.warp c.in-phase-row.result)) (sym c.without-queue.ensures)
-              (sound_settled t.rows (places t.queue) c.args.warp c.in-phase-row.result t.sound),
-          tt,
-        ),
-      ),
-    )
+pub invariant_of-self-2 : goal.invariant_of-self-2
+invariant_of-self-2 c =
+    let t = c.args.self.now in
+    record {
+      table = length-set t.rows c.args.warp c.in_phase-row.result ∙ t.table;
+      count = t.count;
+      sound =
+          subst (Sound (set t.rows c.args.warp c.in_phase-row.result)) (sym c.without-queue.ensures)
+          (sound_settled t.rows (places t.queue) c.args.warp c.in_phase-row.result t.sound);
+    }
 
 pub returns : goal.returns
 returns c =
@@ -52,6 +46,6 @@ returns c =
     let count = t.count in
     let w = c.args.warp in
     record {
-      lanes = lanes_in_phase t.warps t.rows w _ _ _ (omega arith) (omega arith) c.in-phase-row.ensures.lane;
+      lanes = lanes_in_phase t.warps t.rows w _ _ _ (omega arith) (omega arith) c.in_phase-row.ensures.lane;
       queue = c.without-queue.ensures;
     }

@@ -57,27 +57,24 @@ bounds-self-place-2 c =
     let low = inside t c.args.request.warp c.requires.inside in
     omega arith
 
-pub invariant-of-self : goal.invariant-of-self
-invariant-of-self c =
+pub invariant_of-self : goal.invariant_of-self
+invariant_of-self c =
     let t = c.args.self.now in
     let table = t.table in
     let count = t.count in
     let r = c.args.request in
-    let row = c.in-phase-row.result in
-    let low = inside t r.warp c.requires.inside in (
-      length-set t.rows r.warp row ∙ table,
-      (
-        count,
-        (
+    let row = c.in_phase-row.result in
+    let low = inside t r.warp c.requires.inside in
+    record {
+      table = length-set t.rows r.warp row ∙ table;
+      count = count;
+      sound =
           subst (Sound (set t.rows r.warp row)) (sym c.push-queue.ensures)
-              (waits_sound t.warps t.rows (places t.queue) r row _ (omega arith) t.sound low
-              c.requires.free c.requires.room
-              (ap (λ (l : Lane). is_waiting l.phase) c.in-phase-row.ensures.lane)
-              c.in-phase-row.ensures.long),
-          tt,
-        ),
-      ),
-    )
+          (waits_sound t.warps t.rows (places t.queue) r row _ (omega arith) t.sound low
+          c.requires.free c.requires.room
+          (ap (λ (l : Lane). is_waiting l.phase) c.in_phase-row.ensures.lane)
+          c.in_phase-row.ensures.long);
+    }
 
 pub returns : goal.returns
 returns c =
@@ -87,6 +84,6 @@ returns c =
     let r = c.args.request in
     let low = inside t r.warp c.requires.inside in
     record {
-      lanes = lanes_in_phase t.warps t.rows r.warp _ _ _ low (omega arith) c.in-phase-row.ensures.lane;
+      lanes = lanes_in_phase t.warps t.rows r.warp _ _ _ low (omega arith) c.in_phase-row.ensures.lane;
       queue = c.push-queue.ensures;
     }

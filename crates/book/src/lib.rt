@@ -1,4 +1,6 @@
 //! Version books: what every book keeps, and the exact book.
+#![tactic(auto)]
+
 pub mod call;
 pub mod entry;
 pub mod exact;

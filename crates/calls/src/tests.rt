@@ -94,8 +94,8 @@ fn stamps_and_values(rt: HostRuntime) -> Result<(), Fail> {
         b"GTM\x00\x01C\x01\x00\x02\x3b\x9a\xca\x00\x00\x00\x01\x02\xff\xff\xff\xff",
     )?;
     assert_eq!(rt; file.book, BookKind::Condensed);
-    assert!(rt; file.stamps.as_slice() == &[1_000_000_000u32]);
-    assert!(rt; file.values.as_slice() == &[258u32, 4_294_967_295]);
+    assert!(rt; file.stamps.as_slice() == [1_000_000_000u32].as_slice());
+    assert!(rt; file.values.as_slice() == [258u32, 4_294_967_295].as_slice());
     assert!(rt; file.calls.is_empty());
     assert_eq!(rt; file.fault, None);
     Ok(())

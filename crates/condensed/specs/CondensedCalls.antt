@@ -1,5 +1,5 @@
 -- What each call of the condensed book makes of what it tells, and that the books that come up stay such.
-use Rattle.std.specs.Prelude.{◌≡◌, ℕ, ◌<◌, ◌≤◌, true, false, List, length, get_or, set, Some, None, Option, ◌==◌, ◌≢◌, slice_index_or, slice_set}
+use Rattle.std.specs.Prelude.{◌≡◌, ℕ, ◌<◌, ◌≤◌, true, false, List, length, get_or, Some, None, Option, ◌==◌, ◌≢◌, slice_index_or, slice_set}
 use Rattle.std.proofs.Common.{⊎_elim, ◌∙◌, arith, length-set, get_or-set_same, get_or-set_other}
 use Rattle.std.proofs.Math.Path.{refl, sym, ap, subst}
 use Rattle.std.proofs.lemmas.Bool.{cases_eq, cond-true, cond-false, cond_both, eqb-true, ne_eqb, eq-eqb, both_ways}

@@ -1,5 +1,5 @@
 -- The filter: stamps of many lines in few entries, four ways of 64.
-use Rattle.std.specs.Prelude.{ℕ, ◌+◌, ◌/◌, ◌%◌, ◌<◌, cond, List, [], ◌∷◌, get_or, set, ◌==◌, bit_xor, slice_index, slice_index_or, slice_set}
+use Rattle.std.specs.Prelude.{ℕ, ◌+◌, ◌/◌, ◌%◌, ◌<◌, cond, List, [], ◌∷◌, get_or, ◌==◌, bit_xor, slice_index, slice_index_or, slice_set}
 use Rattle.book.specs.Entries.{no_stamps, raised, least}
 use Rattle.book.specs.declared.entry.Stamps.{Stamps}
 

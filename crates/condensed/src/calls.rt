@@ -50,6 +50,14 @@ impl CondensedBook {
         None
     }
 
+    /// The slot that the line is in, or else the one to take for it.
+    fn place_for(&self, line: u32) -> Option<usize>
+        ensures value { result ≡ place_for self.now.slots line }
+        ensures within { IfSome result (λ place. place < 16) }
+    {
+        self.place_in(self.slot_of(line))
+    }
+
     /// The slot that a line is in, or else the one to take for it.
     fn place_in(&self, inside: Option<usize>) -> Option<usize>
         requires { IfSome inside (λ place. place < 16) }
@@ -81,7 +89,8 @@ impl CondensedBook {
 
     /// What the book tells of the line.
     fn at(&self, line: u32) -> Entry
-        ensures { result ≡ told (condensed_page self.now) line }
+        ensures value { result ≡ told (condensed_page self.now) line }
+        ensures bound { Bounded result.stamps self.now.latest }
     {
         if line >= LINES {
             return Entry::UNTOUCHED;
@@ -156,7 +165,7 @@ impl Book for CondensedBook {
     }
 
     fn has_slot(&self, line: u32) -> bool {
-        line < LINES && self.place_in(self.slot_of(line)).is_some()
+        line < LINES && self.place_for(line).is_some()
     }
 
     fn told(&self, line: u32) -> Told {

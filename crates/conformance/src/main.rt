@@ -1,4 +1,6 @@
 //! Lists stored calls files, and says of each whether its listing is the stored one, or the first row that differs.
+#![tactic(auto)]
+
 use listing::listing::list;
 use std::fs;
 

@@ -1,4 +1,6 @@
 //! Turns a calls file on standard input into its listing on standard output.
+#![tactic(auto)]
+
 use calls::reader::enough_bytes;
 use listing::listing::list;
 use std::io::{Read, Write};

@@ -1,4 +1,6 @@
 //! The listing: from the bytes of a calls file to the text that a simulator's listing is compared with.
+#![tactic(auto)]
+
 pub mod listing;
 #[cfg(test)]
 mod tests;

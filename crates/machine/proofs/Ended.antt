@@ -1,6 +1,6 @@
 -- A transaction that is released, at rest and woken has ended.
 use Rattle.std.proofs.Common.{◌≡◌, ℕ, List, set, fold, sym, ap, ◌∙◌}
-use Rattle.book.specs.Meaning.{Kind, released}
+use Rattle.book.specs.Meaning.{Kind}
 use Rattle.rules.specs.Queue.{product}
 use Rattle.rules.specs.State.{Lane, Machine, idle_at, lane_of}
 use Rattle.rules.specs.Ending.{lets_go, ends, logged_lines}

@@ -1,4 +1,6 @@
 //! The machine: transactions over any memory and any version book.
+#![tactic(auto)]
+
 mod accesses;
 pub mod calls;
 mod ending;

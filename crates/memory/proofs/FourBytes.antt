@@ -1,9 +1,8 @@
 -- Writing the four bytes of a number where a line lies sets that line alone.
-use Rattle.std.proofs.Common.{◌≡◌, ℕ, ◌+◌, ◌*◌, ◌/◌, ◌%◌, ◌^◌, ◌<◌, Bool, true, false, cond, eqb, ltb, ◌≢◌, List, [], ◌∷◌, length, get_or, drop, set, Some, None, Option, refl, ap, ◌∙◌, add-zero, arith, length-set, get_or-set_other, get_or-set_same, drop-set-lt}
+use Rattle.std.proofs.Common.{◌≡◌, ℕ, ◌+◌, ◌*◌, ◌/◌, ◌%◌, ◌^◌, ◌<◌, Bool, true, false, eqb, ltb, ◌≢◌, List, [], ◌∷◌, length, get_or, set, refl, ◌∙◌, add-zero, arith, length-set, get_or-set_other, get_or-set_same, drop-set-lt}
 use mathlib.Core.Path.{fun_ext}
 use native.Mathlib.Nat.{div-div-eq-div-mul}
 use Rattle.std.proofs.lemmas.Bool.{eqb-true, eqb-false, eq-eqb, lt-ltb}
-use Rattle.std.specs.Option.{option_map}
 use Rattle.memory.specs.Lines.{byte_lines, little_endian, odd_bytes, put}
 
 -- Four bytes written from a place on.

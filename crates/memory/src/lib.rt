@@ -1,4 +1,6 @@
 //! Memories: what they mean, and three kinds of them.
+#![tactic(auto)]
+
 pub mod byte;
 pub mod split;
 pub mod store;

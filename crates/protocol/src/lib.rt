@@ -1,4 +1,6 @@
 //! What is asked of the machine, and how it refuses.
+#![tactic(auto)]
+
 pub mod answer;
 pub mod call;
 pub mod fault;

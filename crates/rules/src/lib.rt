@@ -1,4 +1,6 @@
 //! The rules of the machine, the two accounts of a run, and the laws that every run keeps.
+#![tactic(auto)]
+
 ghost use Rattle.book.specs.Meaning.{Kind};
 ghost use Rattle.rules.specs.Examples.{ChainOfThree, ForgottenWaits, LostUpdateUnexplained};
 ghost use Rattle.rules.specs.Examples.{ReaderThenWriter, SameStamp, SettledLoadFound};

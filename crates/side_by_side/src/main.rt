@@ -1,4 +1,6 @@
 //! Two version books side by side: the same calls, and what each book tells.
+#![tactic(auto)]
+
 mod meaning;
 mod storm;
 mod story;

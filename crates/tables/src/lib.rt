@@ -1,4 +1,6 @@
 //! The machine's tables: logs, the warps' rows and the queue.
+#![tactic(auto)]
+
 pub mod few;
 pub mod log;
 pub mod making;

@@ -1,4 +1,6 @@
 //! The library by example: a machine over two banks of memory, a few calls, and what its tables tell.
+#![tactic(auto)]
+
 use book::exact::ExactBook;
 use book::record::Book;
 use machine::state::Machine;

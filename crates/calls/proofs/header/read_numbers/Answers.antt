@@ -1,5 +1,4 @@
 -- Each turn reads one number more.
-use Rattle.std.proofs.Common.{[], ◌∷◌, ◌++◌, sym, ap, ◌∙◌}
 use Rattle.calls.proofs.NumberSteps.{numbers_more}
 use Rattle.calls.proofs.header.read_numbers.Goals as goal
 

@@ -1,5 +1,5 @@
 -- The parts are read where the sizes say that they stand, and the checks come in their order.
-use Rattle.std.proofs.Common.{◌≡◌, ◌≤◌, length, ap, ◌∙◌, arith}
+use Rattle.std.proofs.Common.{◌≤◌, length, ap, ◌∙◌, arith}
 use Rattle.std.proofs.lemmas.Bool.Decides.{nat_tests}
 use Rattle.calls.specs.Format.{warps, lines}
 use Rattle.calls.proofs.NumberSteps.{numbers_length}

@@ -1,5 +1,5 @@
 -- Each turn reads one row; the three ways out are the end, a fault and the last row that may come.
-use Rattle.std.proofs.Common.{[], ◌∷◌, ◌∙◌, arith}
+use Rattle.std.proofs.Common.{◌∙◌, arith}
 use Rattle.calls.proofs.RowSteps.{one_more, at_end, at_fault, at_limit}
 use Rattle.calls.proofs.rows.read_rows.Goals as goal
 

@@ -1,5 +1,5 @@
 -- Each turn adds the row of one call more.
-use Rattle.std.proofs.Common.{◌+◌, ◌≤◌, min, ◌⊎◌, length, inl, inr, ⊎_elim, arith}
+use Rattle.std.proofs.Common.{◌+◌, ◌≤◌, ◌⊎◌, length, inl, inr, ⊎_elim, arith}
 use Rattle.std.proofs.lemmas.Bool.{cases_lt}
 use Rattle.listing.specs.Rows.{written}
 use Rattle.listing.proofs.CallRows.{one_call_more, all_listed}

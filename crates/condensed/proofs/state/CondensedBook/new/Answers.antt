@@ -15,14 +15,14 @@ invariant_of-result c =
     facts_of (record { slots = replicate 16 empty; filter = c.new.result.entries; latest = 0 }) condensed_new
     (ap (λ f. record { slots = replicate 16 empty; filter = f; latest = 0 }) c.new.ensures) sound_new in
     record {
-      sixteen = f.sixteen;
-      apart = f.apart;
-      numbered = f.numbered;
-      written = f.slots_written;
-      read = f.slots_read;
-      filter_written = f.filter_written;
-      filter_read = f.filter_read;
-      stamped = f.slots_stamped;
+      sixteen = f.0;
+      apart = f.1.0;
+      numbered = f.1.1.0;
+      written = f.1.1.1.0;
+      read = f.1.1.1.1.0;
+      filter_written = f.1.1.1.1.1.0;
+      filter_read = f.1.1.1.1.1.1.0;
+      stamped = f.1.1.1.1.1.1.1.0;
     }
 
 pub returns : goal.returns

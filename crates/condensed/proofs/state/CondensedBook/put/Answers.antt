@@ -19,12 +19,12 @@ invariant_of-self c =
     (sound_put s (sound_page b) c.args.line c.requires.numbered c.args.entry c.args.place _
     c.requires.its_place.0 (omega arith) c.requires.fits) in
     record {
-      sixteen = f.sixteen;
-      apart = f.apart;
-      numbered = f.numbered;
-      written = f.slots_written;
-      read = f.slots_read;
-      filter_written = f.filter_written;
-      filter_read = f.filter_read;
-      stamped = f.slots_stamped;
+      sixteen = f.0;
+      apart = f.1.0;
+      numbered = f.1.1.0;
+      written = f.1.1.1.0;
+      read = f.1.1.1.1.0;
+      filter_written = f.1.1.1.1.1.0;
+      filter_read = f.1.1.1.1.1.1.0;
+      stamped = f.1.1.1.1.1.1.1.0;
     }

@@ -16,12 +16,12 @@ invariant_of-self c =
     (ap (λ f. record { slots = b.slots; filter = f; latest = b.latest }) c.turn_out.ensures)
     (sound_vacated s (sound_page b) c.args.line c.args.place) in
     record {
-      sixteen = f.sixteen;
-      apart = f.apart;
-      numbered = f.numbered;
-      written = f.slots_written;
-      read = f.slots_read;
-      filter_written = f.filter_written;
-      filter_read = f.filter_read;
-      stamped = f.slots_stamped;
+      sixteen = f.0;
+      apart = f.1.0;
+      numbered = f.1.1.0;
+      written = f.1.1.1.0;
+      read = f.1.1.1.1.0;
+      filter_written = f.1.1.1.1.1.0;
+      filter_read = f.1.1.1.1.1.1.0;
+      stamped = f.1.1.1.1.1.1.1.0;
     }

@@ -1,7 +1,6 @@
 -- By what is pending, and by the verdict.
 use Rattle.std.proofs.Common.{sym, ap, ◌∙◌, ⊎_elim}
 use Rattle.protocol.specs.declared.answer.Outcome.TheVariants.{Gone}
-use Rattle.rules.specs.Access.{retried}
 use Rattle.tables.specs.Pages.{lanes}
 use Rattle.machine.specs.Meaning.{state}
 use Rattle.machine.specs.Verdicts.{verdict_as}

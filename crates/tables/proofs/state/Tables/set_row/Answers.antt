@@ -1,5 +1,5 @@
 -- The row of a warp that does not wait may be set: no request is its own.
-use Rattle.std.proofs.Common.{set, refl, ◌∙◌, arith}
+use Rattle.std.proofs.Common.{refl, ◌∙◌, arith}
 use Rattle.std.proofs.lemmas.List.{length-set}
 use Rattle.tables.specs.Lists.{places}
 use Rattle.tables.specs.Rows.{lane_in}

@@ -4,13 +4,14 @@
 use calls::reader::enough_bytes;
 use listing::listing::list;
 use std::io::{Read, Write};
+use std::process::ExitCode;
 
-fn main(rt: HostRuntime) -> anyhow::Result<()> {
+fn main(rt: HostRuntime) -> ExitCode {
     match write_listing(&rt) {
-        Ok(()) => Ok(()),
+        Ok(()) => ExitCode::SUCCESS,
         Err(error) => {
             let _ = eprintln!(rt; "golden: {error}");
-            Err(error)
+            ExitCode::FAILURE
         }
     }
 }

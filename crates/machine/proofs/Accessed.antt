@@ -1,24 +1,67 @@
 -- Loads, stores and fetches by what they meet.
-use Rattle.std.proofs.Common.{◌≡◌, ℕ, Bool, List, [], ◌∷◌, ◌++◌, set, sym, refl, ap, ◌∙◌, subst}
+use Rattle.std.proofs.Common.{◌≡◌, ℕ, Bool, true, false, cond, ltb, List, set, Some, None, Option, sym, refl, ap, ◌∙◌, subst}
 use Rattle.protocol.specs.Answers.{answer_of}
 use Rattle.protocol.specs.declared.answer.Answer.{Answer}
 use Rattle.protocol.specs.declared.answer.Answer.TheVariants.{Ok, Val, Wait, Gone}
 use Rattle.protocol.specs.declared.answer.Cause.{Cause}
+use Rattle.protocol.specs.declared.answer.Cause.TheVariants.{WrittenLater, ReadLater, QueueFull, NoSlot}
 use Rattle.protocol.specs.declared.answer.Outcome.{Outcome}
 use Rattle.protocol.specs.declared.answer.Outcome.TheVariants.{Value, Stored, Gone as LostOut}
 use Rattle.book.specs.Meaning.{Kind}
-use Rattle.book.specs.Time.{Time}
+use Rattle.book.specs.Time.{Time, earlier}
 use Rattle.rules.specs.Access.{Told, Verdict, told, decide, own_line, lost, must_wait, go_on}
+use Rattle.rules.specs.Access.{stamp_past, by_owner, by_mark, retried, is_owner}
 use Rattle.rules.specs.Queue.{product, is_full}
 use Rattle.rules.specs.State.{Lane, Machine, in_phase, lane_of, time_of}
 use Rattle.rules.specs.Serving.{serves, serves_own}
-use Rattle.rules.specs.Steps.{waits, accessed, accesses, verdict_at, fetched, fetches}
+use Rattle.rules.specs.Steps.{waits, accessed, accesses, fetched}
 use Rattle.rules.specs.Ending.{ends}
 use Rattle.rules.specs.declared.state.Access.{Access}
-use Rattle.rules.specs.declared.state.Phase.{Phase}
-use Rattle.rules.specs.declared.state.Phase.TheVariants.{Idle, Open, Waiting, Settled}
+use Rattle.rules.specs.declared.state.Access.TheVariants.{Read, Write}
+use Rattle.rules.specs.declared.state.Phase.TheVariants.{Open}
 use Rattle.rules.specs.declared.state.Request.{Request}
+use Rattle.machine.specs.Moves.{if_room, in_queue, joining}
 use Rattle.machine.proofs.Served.{built, then_tables}
+
+-- The verdict with a queue that may be full, from the one with room.
+abbrev if_full : Bool → ℕ → Verdict → Verdict
+if_full full stamp own_line = own_line
+if_full full stamp (lost cause next) = lost cause next
+if_full full stamp must_wait = if_room full stamp
+if_full full stamp go_on = go_on
+
+if_full_cond : (full b : Bool) (stamp : ℕ) (u v : Verdict)
+    → if_full full stamp (cond b u v) ≡ cond b (if_full full stamp u) (if_full full stamp v)
+if_full_cond full true stamp u v = refl
+if_full_cond full false stamp u v = refl
+
+module _ (t : Told) (time : Time) (full : Bool) where
+  abbrev up : Verdict → Verdict
+  up v = if_full full time.0 v
+
+  owner_full : (o : Option ℕ) (access : Access) → by_owner o access t time full ≡ up (by_owner o access t time false)
+  owner_full None Read = refl
+  owner_full None (Write value) = sym (if_full_cond full t.has_slot time.0 go_on (lost NoSlot time.0))
+  owner_full (Some v) access = refl
+
+  mark_full : (access : Access) → by_mark access t time full ≡ up (by_mark access t time false)
+  mark_full Read = owner_full t.owner Read
+  mark_full (Write value) =
+      ap (cond (earlier time t.read_mark) (lost ReadLater (stamp_past (Write value) t)))
+      (owner_full t.owner (Write value))
+      ∙ sym (if_full_cond full (earlier time t.read_mark) time.0 _ _)
+
+  retried_full : (access : Access) → retried access t time full ≡ up (retried access t time false)
+  retried_full access =
+      ap (cond (ltb time.0 t.write_stamp) (lost WrittenLater (stamp_past access t))) (mark_full access)
+      ∙ sym (if_full_cond full (ltb time.0 t.write_stamp) time.0 _ _)
+
+decide_full :
+    (access : Access) (t : Told) (time : Time) (full : Bool)
+    → decide access t time full ≡ if_full full time.0 (decide access t time false)
+decide_full access t time full =
+    ap (cond (is_owner t.owner time.1) own_line) (retried_full t time full access)
+    ∙ sym (if_full_cond full (is_owner t.owner time.1) time.0 _ _)
 
 module _ {k : Kind} (m : Machine k) (w : ℕ) where
   -- What a step leaves and answers.
@@ -38,14 +81,26 @@ module _ {k : Kind} (m : Machine k) (w : ℕ) where
         (accesses (product k) m w line access).answer
 
     pub by_verdict :
-        (after : Machine k) (answer : Answer) (v : Verdict) (facts : Told) (time : Time) (full : Bool)
-        → facts ≡ told k m.book line → time ≡ time_of m w → full ≡ is_full 4 4 m.queue line
-        → v ≡ decide access facts time full → By after answer v → Done after answer
-    by_verdict after answer v facts time full f t u e by =
-        let is : v ≡ verdict_at (product k) m w line access =
-        e ∙ ap (λ x. decide access x time full) f ∙ ap (λ x. decide access (told k m.book line) x full) t
-        ∙ ap (decide access (told k m.book line) (time_of m w)) u in
-        subst (λ x. By after answer x) is by
+        (after : Machine k) (answer : Answer) (v : Verdict) (facts : Told) (time : Time)
+        → facts ≡ told k m.book line → time ≡ time_of m w → v ≡ decide access facts time false
+        → By after answer (if_full (is_full 4 4 m.queue line) (lane_of m w).stamp v) → Done after answer
+    by_verdict after answer v facts time f t e by =
+        let here = told k m.book line in
+        let full = is_full 4 4 m.queue line in
+        let is : v ≡ decide access here (time_of m w) false =
+        e ∙ ap (λ x. decide access x time false) f ∙ ap (λ x. decide access here x false) t in
+        subst (λ x. By after answer x)
+        (ap (if_full full (lane_of m w).stamp) is ∙ sym (decide_full access here (time_of m w) full)) by
+
+    -- A request that would wait, by whether the queue is full.
+    abbrev Queues : Machine k → Answer → Type 0
+    Queues after answer =
+        Leaves after answer (in_queue m w line access).machine (in_queue m w line access).answer
+
+    pub by_room :
+        (after : Machine k) (answer : Answer) (full : Bool) → is_full 4 4 m.queue line ≡ full
+        → By after answer (if_room full (lane_of m w).stamp) → Queues after answer
+    by_room after answer full is by = subst (λ b. By after answer (if_room b (lane_of m w).stamp)) (sym is) by
 
     pub on_own_line :
         (after : Machine k) (outcome : Outcome) (answer : Answer) → after ≡ (serves_own m w line access).machine
@@ -60,26 +115,23 @@ module _ {k : Kind} (m : Machine k) (w : ℕ) where
     going_on after outcome answer a b c = record { machine = a; says = c ∙ ap answer_of b }
 
     pub being_lost :
-        (after : Machine k) (cause : Cause) (next : ℕ) → after ≡ (ends (product k) m w next).machine
-        → By after (Gone cause next) (lost cause next)
+        (after : Machine k) (answer : Answer) (cause : Cause) (next : ℕ) → after ≡ (ends (product k) m w next).machine
+        → answer ≡ Gone cause next → By after answer (lost cause next)
     unfolding accessed
-    being_lost after cause next a = record { machine = a; says = refl }
+    being_lost after answer cause next a says = record { machine = a; says = says }
 
-    abbrev waits_it : List Lane → List Lane
-    waits_it ls = set ls w (in_phase (lane_of m w) Waiting)
+    pub lost_for_room :
+        (after : Machine k) (answer : Answer) (stamp : ℕ) → stamp ≡ (lane_of m w).stamp
+        → after ≡ (ends (product k) m w stamp).machine → answer ≡ Gone QueueFull stamp
+        → By after answer (lost QueueFull (lane_of m w).stamp)
+    lost_for_room after answer stamp is e says =
+        subst (λ s. By after answer (lost QueueFull s)) is (being_lost after answer QueueFull stamp e says)
 
     pub waiting_now :
-        (lanes : List Lane) (queue : List Request) → lanes ≡ waits_it m.lanes
-        → queue ≡ m.queue ++ record { warp = w; line = line; access = access } ∷ []
-        → By (built m.lines m.book lanes queue) Wait must_wait
+        (after : Machine k) → after ≡ joining m (record { warp = w; line = line; access = access })
+        → By after Wait must_wait
     unfolding accessed waits
-    waiting_now lanes queue a b =
-        record {
-          machine =
-              then_tables m m lanes queue waits_it (λ q. q ++ record { warp = w; line = line; access = access } ∷ [])
-              refl a b;
-          says = refl;
-        }
+    waiting_now after a = record { machine = a; says = refl }
 
   -- A fetched outcome.
   abbrev Fetched : Machine k → Answer → Outcome → Type 0
@@ -107,22 +159,9 @@ module _ {k : Kind} (m : Machine k) (w : ℕ) where
       (record { machine = then_tables m m lanes queue resumes_it (λ q. q) refl a b; says = refl })
 
   pub fetched_gone :
-      (after : Machine k) (cause : Cause) (next : ℕ) (outcome : Outcome) → outcome ≡ LostOut cause next
-      → after ≡ (ends (product k) m w next).machine → Fetched after (Gone cause next) outcome
+      (after : Machine k) (answer : Answer) (cause : Cause) (next : ℕ) (outcome : Outcome)
+      → outcome ≡ LostOut cause next → after ≡ (ends (product k) m w next).machine → answer ≡ Gone cause next
+      → Fetched after answer outcome
   unfolding fetched
-  fetched_gone after cause next outcome is a =
-      subst (λ o. Fetched after (Gone cause next) o) (sym is) (record { machine = a; says = refl })
-
-  -- A fetch by the warp's phase.
-  abbrev Handed : Machine k → Answer → Phase → Type 0
-  Handed after answer p = Leaves after answer (fetches (product k) m w p).machine (fetches (product k) m w p).answer
-
-  pub not_settled : (p : Phase) → ((o : Outcome) → p ≡ Settled o → ⊥) → Handed m Wait p
-  not_settled Idle no_outcome = record { machine = refl; says = refl }
-  not_settled Open no_outcome = record { machine = refl; says = refl }
-  not_settled Waiting no_outcome = record { machine = refl; says = refl }
-  not_settled (Settled o) no_outcome = absurd (no_outcome o refl)
-
-  pub handed : (after : Machine k) (answer : Answer) (p : Phase) (o : Outcome) → Settled o ≡ p
-      → Fetched after answer o → Handed after answer p
-  handed after answer p o is f = subst (λ x. Handed after answer x) is f
+  fetched_gone after answer cause next outcome is a says =
+      subst (λ o. Fetched after answer o) (sym is) (record { machine = a; says = says })

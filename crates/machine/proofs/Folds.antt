@@ -1,13 +1,11 @@
 -- Loops that fold over a list that is fixed before them: one step more, and the end.
 use Rattle.std.proofs.Common.{◌≡◌, ℕ, ◌+◌, ◌<◌, ◌≤◌, List, length, get_or, take, fold, sym, ap, ◌∙◌}
-use Rattle.std.proofs.lemmas.List.{take_all, get_or-map, length-map}
+use Rattle.std.proofs.lemmas.List.{take_all}
 use Rattle.std.proofs.lemmas.List.Sums.{fold_more as folded_more}
 use Rattle.memory.specs.Lines.{Lines, put}
-use Rattle.book.specs.Meaning.{Kind, released}
-use Rattle.rules.specs.State.{Machine, with_lines, with_book}
+use Rattle.book.specs.Meaning.{Kind}
+use Rattle.rules.specs.State.{Machine, with_lines}
 use Rattle.rules.specs.Steps.{written}
-use Rattle.tables.specs.Rows.{lines_in}
-use Rattle.machine.specs.Moves.{releasing}
 
 pub fold_more :
     {X Y : Type 0} (f : Y → X → Y) (a cur next : Y) (xs : List X) (i : ℕ) (x d : X) → i < length xs
@@ -20,28 +18,7 @@ pub fold_all :
     → cur ≡ fold f a xs
 fold_all f a cur xs i past inv = inv ∙ ap (fold f a) (take_all i xs past)
 
--- The line of a store at a place.
-pub line_in : (xs : List (ℕ × ℕ)) (i : ℕ) (s : ℕ × ℕ) → i < length xs → s ≡ get_or xs i (0, 0)
-    → s.0 ≡ get_or (lines_in xs) i 0
-line_in xs i s low is =
-    ap (λ (p : ℕ × ℕ). p.0) is ∙ sym (get_or-map (λ (p : ℕ × ℕ). p.0) xs i (0, 0) 0 low)
-
-pub lines_long : (xs : List (ℕ × ℕ)) → length (lines_in xs) ≡ length xs
-lines_long xs = length-map xs (λ (p : ℕ × ℕ). p.0)
-
 module _ {k : Kind} (m cur : Machine k) where
-  pub release_more :
-      (book : k.State) (xs : List ℕ) (i line : ℕ) → i < length xs → cur ≡ releasing m (take i xs) → line ≡ get_or xs i 0
-      → book ≡ released k cur.book line → with_book cur book ≡ releasing m (take (i + 1) xs)
-  release_more book xs i line low inv at e =
-      ap (with_book cur) e
-      ∙ ap (λ (x : Machine k). with_book x (released k x.book line)) inv
-      ∙ ap (λ n. with_book m (released k (fold (released k) m.book (take i xs)) n)) at
-      ∙ ap (with_book m) (sym (folded_more (released k) m.book xs i 0 low))
-
-  pub release_end : (xs : List ℕ) (i : ℕ) → length xs ≤ i → cur ≡ releasing m (take i xs) → cur ≡ releasing m xs
-  release_end xs i past inv = inv ∙ ap (releasing m) (take_all i xs past)
-
   abbrev store_in : Lines → ℕ × ℕ → Lines
   store_in ls s = put ls s.0 s.1
 

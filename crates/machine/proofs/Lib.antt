@@ -1,4 +1,5 @@
 mod Folds
+mod Firsts
 mod Served
 mod Turning
 mod Ended

@@ -1,5 +1,7 @@
 -- Tries, turns and the end of a transaction, by the machine alone: what has come out does not matter.
-use Rattle.std.proofs.Common.{◌≡◌, ℕ, false, cond, ltb, List, [], ◌∷◌, map, Some, None, fold, Option, sym, refl, ap, ◌∙◌}
+use Rattle.std.proofs.Common.{◌≡◌, ℕ, false, cond, ltb, List, [], ◌∷◌, map, length, Some, None, fold, Option, sym, refl, ap, ◌∙◌, arith}
+use Rattle.std.proofs.lemmas.List.{nil_from_length}
+use Rattle.std.proofs.lemmas.Bool.{ltb-false}
 use Rattle.protocol.specs.declared.answer.Cause.{Cause}
 use Rattle.protocol.specs.declared.answer.Outcome.TheVariants.{Gone as LostOut}
 use Rattle.book.specs.Meaning.{Kind}
@@ -12,7 +14,7 @@ use Rattle.rules.specs.State.{lane_of}
 use Rattle.rules.specs.declared.state.Access.{Access}
 use Rattle.rules.specs.declared.state.Request.{Request}
 use Rattle.tables.specs.Pages.{put_in, turns_at}
-use Rattle.machine.specs.Moves.{none_yet, try_at, wake_at, comes_through}
+use Rattle.machine.specs.Moves.{none_yet, coming_out, try_at, wake_at, comes_through}
 
 module _ {k : Kind} where
   tried_machine :
@@ -81,6 +83,14 @@ module _ {k : Kind} where
   pub turns_are : (m : Machine k) (line : ℕ) → turns_at m.lanes m.queue line ≡ by_stamp m line
   turns_are m line = all_placed m [] (map (λ (r : Request). r.warp) (requests_on m.queue line))
 
+  -- Where nobody waits there are no turns.
+  pub nobody_waits : (m : Machine k) (line : ℕ) → ltb 0 (length (requests_on m.queue line)) ≡ false
+      → m ≡ wake_at m line
+  nobody_waits m line e =
+      let none = nil_from_length (requests_on m.queue line) (let z = ltb-false 0 _ e in omega arith) in
+      ap (λ rs. fold (try_at line) m (fold (placed m) [] (map (λ (r : Request). r.warp) rs))) (sym none)
+      ∙ sym (wake_is m line)
+
   -- A try, by what is pending and by its verdict.
   module _ (m : Machine k) (w line : ℕ) where
     pub not_tried : None ≡ pending m w line → m ≡ try_at line m w
@@ -97,8 +107,8 @@ module _ {k : Kind} where
 
     pub tried_lost :
         (access : Access) (cause : Cause) (next : ℕ)
-        → settles m w (LostOut cause next) ≡ (tried (none_yet m) w line access (lost cause next)).machine
-    unfolding tried
+        → coming_out m w (LostOut cause next) ≡ (tried (none_yet m) w line access (lost cause next)).machine
+    unfolding tried settles
     tried_lost access cause next = refl
 
     pub tried_on : (access : Access) → comes_through m w line access ≡ (tried (none_yet m) w line access go_on).machine

@@ -1,23 +1,38 @@
 -- The tries and the end of a transaction, by the machine that they leave.
-use Rattle.std.specs.Prelude.{ℕ, List, [], length, Some, None, Ok, Err, fold, Option, Result, nat_le, nat_lt}
+use Rattle.std.specs.Prelude.{ℕ, Bool, cond, List, [], ◌∷◌, ◌++◌, length, Some, None, Ok, Err, fold, Option, Result, nat_le, nat_lt, slice_index}
 use Rattle.std.specs.Option.{unwrap_or, option_or}
 use Rattle.protocol.specs.declared.answer.Answer.{Answer}
 use Rattle.protocol.specs.declared.answer.Answer.TheVariants.{No}
+use Rattle.protocol.specs.declared.answer.Cause.TheVariants.{QueueFull}
+use Rattle.protocol.specs.declared.answer.Outcome.{Outcome}
 use Rattle.protocol.specs.declared.call.Op.{Op}
 use Rattle.protocol.specs.declared.fault.Fault.{Fault}
 use Rattle.rules.specs.declared.state.Access.{Access}
+use Rattle.rules.specs.declared.state.Phase.TheVariants.{Waiting, Settled}
+use Rattle.rules.specs.declared.state.Request.{Request}
 use Rattle.memory.specs.Lines.{put}
 use Rattle.book.specs.Meaning.{Kind, released, taken}
 use Rattle.protocol.specs.Limits.{log_limit, last_stamp}
 use Rattle.protocol.specs.declared.fault.Refusal.TheVariants.{LogFull, ClockSpent}
 use Rattle.rules.specs.Lists.{last_stored}
-use Rattle.rules.specs.State.{Lane, Machine, with_lines, with_book, time_of, lane_of}
-use Rattle.rules.specs.Queue.{product}
+use Rattle.rules.specs.State.{Lane, Machine, with_lines, with_book, with_lane, with_queue, in_phase, time_of, lane_of}
+use Rattle.rules.specs.Access.{Verdict, lost, must_wait}
+use Rattle.rules.specs.Queue.{product, is_full, without}
 use Rattle.rules.specs.Ending.{Woken, settles, tries, wakes}
-use Rattle.rules.specs.Steps.{Step, step}
+use Rattle.rules.specs.Steps.{Step, accessed, step}
 use Rattle.rules.specs.Serving.{memory_value, serves}
 use Rattle.rules.specs.Refusals.{unless, faulty}
 use Rattle.rules.specs.Refusals.{phase_refuses, number_fault}
+use Rattle.tables.specs.Rows.{is_first}
+
+-- The number at a place, unless it stands at an earlier one too.
+abbrev pub new_at : List ℕ → ℕ → List ℕ
+new_at ns place = cond (is_first ns place) (slice_index ns place ∷ []) []
+
+-- What becomes of a request that would wait: if the queue is full for its line, its transaction is lost at its own
+-- stamp.
+abbrev pub if_room : Bool → ℕ → Verdict
+if_room full stamp = cond full (lost QueueFull stamp) must_wait
 
 module _ {k : Kind} where
   -- Nothing has come out yet.
@@ -28,6 +43,11 @@ module _ {k : Kind} where
   abbrev pub comes_through : Machine k → ℕ → ℕ → Access → Machine k
   comes_through m w line access =
       let served = serves m w line access in settles served.machine w served.outcome
+
+  -- A request comes out with an outcome, which its warp may fetch.
+  abbrev pub coming_out : Machine k → ℕ → Outcome → Machine k
+  coming_out m w outcome =
+      with_queue (with_lane m w (in_phase (lane_of m w) (Settled outcome))) (without m.queue w)
 
   -- What a turn at a line leaves, and all turns at it.
   abbrev pub try_at : ℕ → Machine k → ℕ → Machine k
@@ -51,6 +71,15 @@ module _ {k : Kind} where
   -- Lines released, one after another.
   abbrev pub releasing : Machine k → List ℕ → Machine k
   releasing m lines = with_book m (fold (released k) m.book lines)
+
+  -- A request that would wait.
+  abbrev pub in_queue : Machine k → ℕ → ℕ → Access → Step k
+  in_queue m w line access =
+      accessed (product k) m w line access (if_room (is_full 4 4 m.queue line) (lane_of m w).stamp)
+
+  -- A request joins the queue, behind all others; its warp waits.
+  abbrev pub joining : Machine k → Request → Machine k
+  joining m r = with_queue (with_lane m r.warp (in_phase (lane_of m r.warp) Waiting)) (m.queue ++ r ∷ [])
 
   -- A step of the product's machine.
   abbrev pub next : Machine k → ℕ → Op → Step k

@@ -1,20 +1,66 @@
 //! Loads and stores, by what they meet.
 ghost use Rattle.std.specs.Prelude.{◌≡◌, ◌<◌, true, false, length};
 ghost use Rattle.protocol.specs.Limits.{line_limit};
+ghost use Rattle.protocol.specs.declared.answer.Answer.TheVariants.{Gone};
 ghost use Rattle.rules.specs.Queue.{product};
 ghost use Rattle.rules.specs.State.{is_waiting};
+ghost use Rattle.rules.specs.Ending.{ends};
 ghost use Rattle.rules.specs.Steps.{accesses, fetched, fetches};
 ghost use Rattle.tables.specs.Pages.{lanes, lane, has_room};
 ghost use Rattle.machine.specs.Meaning.{state};
+ghost use Rattle.machine.specs.Moves.{in_queue, joining};
 
 use crate::state::Machine;
 use crate::verdict::{Verdict, decide};
 use book::record::Book;
 use memory::store::Memory;
-use protocol::answer::{Answer, Outcome};
+use protocol::answer::{Answer, Cause, Outcome};
 use rules::state::{Access, Phase, Request};
 
 impl<M: Memory, B: Book> Machine<M, B> {
+    /// The transaction is gone: it ends, and its warp goes on at the next stamp.
+    fn lose(&mut self, warp: u32, cause: Cause, next: u64) -> Answer
+        requires { is_waiting (lane self.old.tables warp).phase ≡ false }
+        ensures after { state M.Memory.at B.Book.kind B.Book.model self.new
+            ≡ (ends (product B.Book.kind) (state M.Memory.at B.Book.kind B.Book.model self.old)
+            warp next).machine }
+        ensures answer { result ≡ Gone cause next }
+    {
+        self.end(warp, next);
+        Answer::Gone { cause, next }
+    }
+
+    /// A request joins the queue, and notes nothing yet.
+    fn join_queue(&mut self, request: Request)
+        requires known { request.warp < length (lanes self.old.tables) }
+        requires free { is_waiting (lane self.old.tables request.warp).phase ≡ false }
+        requires room { has_room (lane self.old.tables request.warp) request.access ≡ true }
+        ensures { state M.Memory.at B.Book.kind B.Book.model self.new
+            ≡ joining (state M.Memory.at B.Book.kind B.Book.model self.old) request }
+    {
+        self.tables.wait(request);
+    }
+
+    /// A load or a store that would wait: if the queue is full for the line, its transaction ends at its own stamp.
+    fn wait_or_lose(&mut self, warp: u32, line: u32, access: Access) -> Answer
+        requires known { warp < length (lanes self.old.tables) }
+        requires free { is_waiting (lane self.old.tables warp).phase ≡ false }
+        requires room { has_room (lane self.old.tables warp) access ≡ true }
+        ensures after { state M.Memory.at B.Book.kind B.Book.model self.new
+            ≡ (in_queue (state M.Memory.at B.Book.kind B.Book.model self.old) warp line access
+            ).machine }
+        ensures answer { result
+            ≡ (in_queue (state M.Memory.at B.Book.kind B.Book.model self.old) warp line access
+            ).answer }
+    {
+        if self.tables.is_full(line) {
+            let stamp = self.tables.stamp(warp);
+            return self.lose(warp, Cause::QueueFull, stamp);
+        }
+        self.join_queue(Request { warp, line, access });
+        Answer::Wait
+    }
+
     /// A load or a store of a warp that may go on.
     pub(crate) fn access(&mut self, warp: u32, line: u32, access: Access) -> Answer
         requires inside { line < line_limit }
@@ -28,17 +74,10 @@ impl<M: Memory, B: Book> Machine<M, B> {
             ≡ (accesses (product B.Book.kind)
             (state M.Memory.at B.Book.kind B.Book.model self.old) warp line access).answer }
     {
-        let full = self.tables.is_full(line);
-        match decide(access, self.told(line), self.time(warp), full) {
+        match decide(access, self.told(line), self.time(warp), false) {
             Verdict::OwnLine => self.serve_own(warp, line, access).answer(),
-            Verdict::Lost { cause, next } => {
-                self.end(warp, next);
-                Answer::Gone { cause, next }
-            }
-            Verdict::MustWait => {
-                self.tables.wait(Request { warp, line, access });
-                Answer::Wait
-            }
+            Verdict::Lost { cause, next } => self.lose(warp, cause, next),
+            Verdict::MustWait => self.wait_or_lose(warp, line, access),
             Verdict::GoOn => self.serve(warp, line, access).answer(),
         }
     }
@@ -62,10 +101,7 @@ impl<M: Memory, B: Book> Machine<M, B> {
                 self.tables.resume(warp);
                 Answer::Ok
             }
-            Outcome::Gone { cause, next } => {
-                self.end(warp, next);
-                Answer::Gone { cause, next }
-            }
+            Outcome::Gone { cause, next } => self.lose(warp, cause, next),
         }
     }
 

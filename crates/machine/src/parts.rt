@@ -1,12 +1,13 @@
 //! What the machine asks of its memory and its book.
-ghost use Rattle.std.specs.Prelude.{◌≡◌};
+ghost use Rattle.std.specs.Prelude.{◌≡◌, ◌<◌, [], ◌∷◌, length, slice_index_or};
 ghost use Rattle.rules.specs.Access.{told};
 ghost use Rattle.rules.specs.State.{time_of};
 ghost use Rattle.rules.specs.Serving.{memory_value, reads};
+ghost use Rattle.rules.specs.Ending.{logged_lines};
 ghost use Rattle.rules.specs.Steps.{writes_back};
 ghost use Rattle.machine.specs.Meaning.{state};
-ghost use Rattle.machine.specs.Moves.{own_value, releasing, reserving, writing};
-ghost use Rattle.tables.specs.Rows.{log_of, lines_in, pair_of};
+ghost use Rattle.machine.specs.Moves.{own_value, new_at, releasing, reserving, writing};
+ghost use Rattle.tables.specs.Rows.{log_of, lines_in};
 ghost use Rattle.machine.specs.Verdicts.{told_as};
 
 use crate::state::Machine;
@@ -14,18 +15,19 @@ use crate::verdict::Told;
 use book::record::Book;
 use memory::store::Memory;
 use protocol::limits::LAST_STAMP;
-use tables::row::{Log, Store};
+use tables::row::Log;
 
 impl<M: Memory, B: Book> Machine<M, B> {
     /// What the book tells of a line.
     pub(crate) fn told(&self, line: u32) -> Told
         ensures { told_as result ≡ told B.Book.kind (B.Book.model self.now.book) line }
     {
+        let told = self.book.told(line);
         Told {
-            written: self.book.write_stamp(line),
-            read: self.book.read_mark(line),
-            owner: self.book.owner(line),
-            slot: self.book.has_slot(line),
+            written: told.written,
+            read: told.read,
+            owner: told.owner,
+            slot: told.slot,
         }
     }
 
@@ -82,22 +84,45 @@ impl<M: Memory, B: Book> Machine<M, B> {
         let _ = self.book.reserve(line, (stamp as u32, warp));
     }
 
-    /// Releases the lines of some stores, one after another.
-    pub(crate) fn release_all(&mut self, stores: Log)
+    /// Releases a line, and tries nothing yet.
+    fn release(&mut self, line: u32)
+        ensures { state M.Memory.at B.Book.kind B.Book.model self.new
+            ≡ releasing (state M.Memory.at B.Book.kind B.Book.model self.old) (line ∷ []) }
+    {
+        let _ = self.book.release(line);
+    }
+
+    /// Releases the line of the store at a place, unless an earlier store is of that line.
+    fn release_first(&mut self, stores: &Log, place: usize)
+        requires { place < length (log_of stores.now) }
         ensures { state M.Memory.at B.Book.kind B.Book.model self.new
             ≡ releasing (state M.Memory.at B.Book.kind B.Book.model self.old)
-            (lines_in (log_of stores)) }
+            (new_at (lines_in (log_of stores.now)) place) }
     {
-        for place in 0..stores.len() {
-            let _ = self.book.release(stores.at(place).line);
+        if stores.is_first(place) {
+            self.release(stores.at(place).line);
         }
     }
 
-    /// Writes a store to memory.
-    fn write_store(&mut self, store: Store)
+    /// Releases the lines of some stores, each once, one after another.
+    pub(crate) fn release_all(&mut self, stores: &Log)
         ensures { state M.Memory.at B.Book.kind B.Book.model self.new
-            ≡ writing (state M.Memory.at B.Book.kind B.Book.model self.old) (pair_of store) }
+            ≡ releasing (state M.Memory.at B.Book.kind B.Book.model self.old)
+            (logged_lines (log_of stores.now)) }
     {
+        for place in 0..stores.len() {
+            self.release_first(stores, place);
+        }
+    }
+
+    /// Writes the store at a place of a log to memory.
+    fn write_at(&mut self, log: &Log, place: usize)
+        requires { place < length (log_of log.now) }
+        ensures { state M.Memory.at B.Book.kind B.Book.model self.new
+            ≡ writing (state M.Memory.at B.Book.kind B.Book.model self.old)
+            (slice_index_or (log_of log.now) place (0, 0)) }
+    {
+        let store = log.at(place);
         let _ = self.memory.write(store.line, store.value);
     }
 
@@ -108,7 +133,7 @@ impl<M: Memory, B: Book> Machine<M, B> {
     {
         let log = self.tables.log(warp);
         for place in 0..log.len() {
-            self.write_store(log.at(place));
+            self.write_at(&log, place);
         }
     }
 }

@@ -1,11 +1,12 @@
 //! Loads and stores that go on, and the tries of those that waited.
-ghost use Rattle.std.specs.Prelude.{◌≡◌, ◌<◌, true, false};
+ghost use Rattle.std.specs.Prelude.{◌≡◌, ◌<◌, true, false, length, slice_index};
 ghost use Rattle.protocol.specs.Limits.{line_limit};
 ghost use Rattle.rules.specs.State.{is_waiting};
 ghost use Rattle.rules.specs.Serving.{serves, serves_own};
+ghost use Rattle.tables.specs.Lists.{few};
 ghost use Rattle.tables.specs.Pages.{lane, has_room};
 ghost use Rattle.machine.specs.Meaning.{state};
-ghost use Rattle.machine.specs.Moves.{try_at, wake_at, comes_through};
+ghost use Rattle.machine.specs.Moves.{coming_out, try_at, wake_at, comes_through};
 
 use crate::state::Machine;
 use crate::verdict::{Verdict, retried};
@@ -13,6 +14,7 @@ use book::record::Book;
 use memory::store::Memory;
 use protocol::answer::Outcome;
 use rules::state::Access;
+use tables::few::Few;
 use tables::row::Store;
 
 impl<M: Memory, B: Book> Machine<M, B> {
@@ -89,6 +91,14 @@ impl<M: Memory, B: Book> Machine<M, B> {
         }
     }
 
+    /// A request comes out: it leaves the queue, and its warp has the outcome to fetch, at the stamp that it had.
+    fn come_out(&mut self, warp: u32, outcome: Outcome)
+        ensures { state M.Memory.at B.Book.kind B.Book.model self.new
+            ≡ coming_out (state M.Memory.at B.Book.kind B.Book.model self.old) warp outcome }
+    {
+        self.tables.settle(warp, outcome);
+    }
+
     /// A warp's turn at a line; it is passed over unless it waits there.
     fn try_turn(&mut self, line: u32, warp: u32)
         requires { line < line_limit }
@@ -99,12 +109,21 @@ impl<M: Memory, B: Book> Machine<M, B> {
             return;
         };
         match retried(access, self.told(line), self.time(warp), false) {
-            Verdict::Lost { cause, next } => self
-                .tables
-                .settle(warp, Outcome::Gone { cause, next }),
+            Verdict::Lost { cause, next } => self.come_out(warp, Outcome::Gone { cause, next }),
             Verdict::GoOn => self.serve_waiting(warp, line, access),
             Verdict::OwnLine | Verdict::MustWait => {}
         }
+    }
+
+    /// The turn at a place of the order.
+    fn try_at(&mut self, line: u32, turns: Few, place: usize)
+        requires inside { line < line_limit }
+        requires within { place < length (few turns) }
+        ensures { state M.Memory.at B.Book.kind B.Book.model self.new
+            ≡ try_at line (state M.Memory.at B.Book.kind B.Book.model self.old)
+            (slice_index (few turns) place) }
+    {
+        self.try_turn(line, turns.at(place));
     }
 
     /// Every turn at a line.
@@ -113,9 +132,12 @@ impl<M: Memory, B: Book> Machine<M, B> {
         ensures { state M.Memory.at B.Book.kind B.Book.model self.new
             ≡ wake_at (state M.Memory.at B.Book.kind B.Book.model self.old) line }
     {
+        if !self.tables.any_waits(line) {
+            return;
+        }
         let turns = self.tables.turns(line);
         for place in 0..turns.len() {
-            self.try_turn(line, turns.at(place));
+            self.try_at(line, turns, place);
         }
     }
 }

@@ -1,8 +1,8 @@
 -- The first rows as lanes: reading one, setting one.
 use Rattle.std.proofs.Common.{◌≡◌, ℕ, zero, suc, ◌+◌, ◌<◌, ◌≤◌, Bool, true, false, cond, leb, List, [], ◌∷◌, ◌++◌, map, length, get_or, take, set, Some, None, sym, refl, ap, ◌∙◌, arith}
-use Rattle.std.proofs.lemmas.List.{length-take-le, length-map, get_or-map, get_or-take, get_or_past, set_past, map-set, take_all, take_more_set, map_push, map_more}
+use Rattle.std.proofs.lemmas.List.{length-take-le, length-map, get_or-map, get_or-take, get_or_past, set_past, map-set, take_all, take_more_set, map_push, map_more, set-set, get_or-set_same, length-set}
 use Rattle.std.proofs.lemmas.Bool.{leb-false}
-use Rattle.rules.specs.State.{Lane, idle_at, in_phase}
+use Rattle.rules.specs.State.{Lane, idle_at, in_phase, logging}
 use Rattle.rules.specs.declared.state.Phase.{Phase}
 use Rattle.tables.specs.Rows.{pair_of, logged, lane_in, lanes_in}
 use Rattle.tables.specs.declared.row.Row.{Row}
@@ -38,6 +38,9 @@ pub lanes_set_past :
 lanes_set_past n rows w lane l m =
     sym (set_past (lanes_in n rows) w lane (let e = lanes_length n rows m in omega arith))
 
+abbrev lane_of : Phase → ℕ → List (ℕ × ℕ) → Lane
+lane_of phase stamp log = record { phase = phase; stamp = stamp; log = log }
+
 -- A row in another phase.
 pub lanes_in_phase :
     (n : ℕ) (rows : List Row) (w : ℕ) (row d : Row) (phase : Phase) → w < n → n ≤ length rows
@@ -46,6 +49,69 @@ pub lanes_in_phase :
 lanes_in_phase n rows w row d phase low m is =
     lanes_set n rows w row
     ∙ ap (set (lanes_in n rows) w) (is ∙ ap (λ l. in_phase l phase) (sym (lane_row n rows w d low m)))
+
+-- A row that is written field by field.
+module _ (n : ℕ) (rows : List Row) (w : ℕ) where
+  lanes_again : (first second : Row) → lanes_in n (set (set rows w first) w second)
+      ≡ set (lanes_in n rows) w (lane_in second)
+  lanes_again first second =
+      lanes_set n (set rows w first) w second
+      ∙ ap (λ ls. set ls w (lane_in second)) (lanes_set n rows w first)
+      ∙ set-set (lanes_in n rows) w (lane_in first) (lane_in second)
+
+  pub lanes_started :
+      (first second third d e : Row) (phase : Phase) (stamp : ℕ) → w < length rows
+      → first.phase ≡ phase
+      → second.phase ≡ (get_or (set rows w first) w d).phase
+      → second.stamp ≡ stamp
+      → third.phase ≡ (get_or (set (set rows w first) w second) w e).phase
+      → third.stamp ≡ (get_or (set (set rows w first) w second) w e).stamp
+      → third.len ≡ 0
+      → lanes_in n (set (set (set rows w first) w second) w third)
+      ≡ set (lanes_in n rows) w (record { phase = phase; stamp = stamp; log = [] })
+  lanes_started first second third d e phase stamp low p q r s t u =
+      let long = length-set rows w first in
+      let was : get_or (set rows w first) w d ≡ first = get_or-set_same rows w first d low in
+      let is : get_or (set (set rows w first) w second) w e ≡ second =
+      get_or-set_same (set rows w first) w second e (omega arith) in
+      let a : third.phase ≡ phase =
+      s ∙ ap (λ (x : Row). x.phase) is ∙ q ∙ ap (λ (x : Row). x.phase) was ∙ p in
+      let b : third.stamp ≡ stamp = t ∙ ap (λ (x : Row). x.stamp) is ∙ r in
+      lanes_set n (set (set rows w first) w second) w third
+      ∙ ap (λ ls. set ls w (lane_in third)) (lanes_again first second)
+      ∙ set-set (lanes_in n rows) w (lane_in second) (lane_in third)
+      ∙ ap (set (lanes_in n rows) w)
+      (ap (λ x. lane_of x third.stamp (logged third.len third.stores)) a
+      ∙ ap (λ x. lane_of phase x (logged third.len third.stores)) b
+      ∙ ap (λ x. lane_of phase stamp (logged x third.stores)) u)
+
+  pub lanes_logged :
+      (first second d e : Row) (len : ℕ) (stores : List Store) (s : ℕ × ℕ) → w < n → n ≤ length rows
+      → first.phase ≡ (get_or rows w d).phase
+      → first.stamp ≡ (get_or rows w d).stamp
+      → first.len ≡ len
+      → second.phase ≡ (get_or (set rows w first) w e).phase
+      → second.stamp ≡ (get_or (set rows w first) w e).stamp
+      → second.len ≡ (get_or (set rows w first) w e).len
+      → second.stores ≡ stores
+      → logged len stores ≡ (get_or (lanes_in n rows) w (idle_at 0)).log ++ s ∷ []
+      → lanes_in n (set (set rows w first) w second)
+      ≡ set (lanes_in n rows) w (logging (get_or (lanes_in n rows) w (idle_at 0)) s.0 s.1)
+  lanes_logged first second d e len stores s low m p q r x y z v log =
+      let is : get_or (set rows w first) w e ≡ first = get_or-set_same rows w first e (omega arith) in
+      let was = lane_row n rows w d low m in
+      let a : second.phase ≡ (get_or (lanes_in n rows) w (idle_at 0)).phase =
+      x ∙ ap (λ (o : Row). o.phase) is ∙ p ∙ ap (λ (l : Lane). l.phase) (sym was) in
+      let b : second.stamp ≡ (get_or (lanes_in n rows) w (idle_at 0)).stamp =
+      y ∙ ap (λ (o : Row). o.stamp) is ∙ q ∙ ap (λ (l : Lane). l.stamp) (sym was) in
+      let c : logged second.len second.stores ≡ logged len stores =
+      ap (λ o. logged o second.stores) (z ∙ ap (λ (o : Row). o.len) is ∙ r) ∙ ap (logged len) v in
+      lanes_again first second
+      ∙ ap (set (lanes_in n rows) w)
+      (ap (λ o. lane_of o second.stamp (logged second.len second.stores)) a
+      ∙ ap (λ o. lane_of (get_or (lanes_in n rows) w (idle_at 0)).phase o (logged second.len second.stores)) b
+      ∙ ap (lane_of (get_or (lanes_in n rows) w (idle_at 0)).phase (get_or (lanes_in n rows) w (idle_at 0)).stamp)
+      (c ∙ log))
 
 -- A log longer than a row's places is all of them.
 pub log_whole :

@@ -161,6 +161,12 @@ line_at xs n i s d l m at =
     ∙ ap (λ (s : ℕ × ℕ). s.0) (get_or-map pair_of (take n xs) i d (0, 0) inside)
     ∙ ap (λ (s : Store). s.line) (get_or-take n xs i d l ∙ sym at)
 
+-- The line of a store at a place.
+pub line_in : (xs : List (ℕ × ℕ)) (i : ℕ) (s : ℕ × ℕ) → i < length xs → s ≡ get_or xs i (0, 0)
+    → s.0 ≡ get_or (lines_in xs) i 0
+line_in xs i s low is =
+    ap (λ (p : ℕ × ℕ). p.0) is ∙ sym (get_or-map (λ (p : ℕ × ℕ). p.0) xs i (0, 0) 0 low)
+
 pub lines_length : (xs : List Store) (n : ℕ) → n ≤ length xs → length (lines_in (logged n xs)) ≡ n
 lines_length xs n l = length-map (logged n xs) (λ (s : ℕ × ℕ). s.0) ∙ logged_length xs n l
 
@@ -200,3 +206,13 @@ no_room_told stores s l e =
     let at = ap (λ b. cond b (Some (stores ++ s ∷ [])) None) (lt-ltb (length stores) 32 l) in
     let z : ◌≡◌ {A = ℕ} 0 1 = cc in
     omega arith
+
+-- A log that took a store has it behind the others.
+pub store_taken :
+    (stores log : List (ℕ × ℕ)) (s : ℕ × ℕ) → Some log ≡ cond (ltb (length stores) 32) (Some (stores ++ s ∷ [])) None
+    → log ≡ stores ++ s ∷ []
+store_taken stores log s e = by (ltb (length stores) 32) e
+  where
+    by : (b : Bool) → Some log ≡ cond b (Some (stores ++ s ∷ [])) None → log ≡ stores ++ s ∷ []
+    by true e = cc
+    by false e = let z : ◌≡◌ {A = ℕ} 0 1 = cc in absurd (omega arith)

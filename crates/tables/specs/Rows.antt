@@ -1,5 +1,5 @@
 -- What stores, logs and rows mean.
-use Rattle.std.specs.Prelude.{ℕ, cond, List, [], ◌∷◌, ◌++◌, map, take, replicate, refl}
+use Rattle.std.specs.Prelude.{ℕ, Bool, cond, not, List, [], ◌∷◌, ◌++◌, map, take, replicate, slice_index, refl}
 use Rattle.std.proofs.Common.{lit<}
 use Rattle.rules.specs.Lists.{has}
 use Rattle.rules.specs.State.{Lane}
@@ -26,6 +26,10 @@ lines_in stores = map (λ (s : ℕ × ℕ). s.0) stores
 -- A store that is the first of its line joins those before it.
 abbrev pub first_pushed : List (ℕ × ℕ) → ℕ × ℕ → List (ℕ × ℕ)
 first_pushed stores s = cond (has s.0 (lines_in stores)) stores (stores ++ s ∷ [])
+
+-- A number stands at no place before its own.
+abbrev pub is_first : List ℕ → ℕ → Bool
+is_first ns place = not (has (slice_index ns place) (take place ns))
 
 -- A row is a lane.
 abbrev pub lane_in : Row → Lane

@@ -4,7 +4,7 @@ ghost use Rattle.std.specs.Option.{option_map};
 ghost use Rattle.protocol.specs.Limits.{line_limit, log_limit};
 ghost use Rattle.rules.specs.Lists.{has, last_stored};
 ghost use Rattle.rules.specs.Ending.{logged_lines};
-ghost use Rattle.tables.specs.Rows.{pair_of, logged, log_of, lines_in, first_pushed};
+ghost use Rattle.tables.specs.Rows.{pair_of, logged, log_of, lines_in, first_pushed, is_first};
 
 use crate::row::{Log, Store};
 use protocol::limits::STORES;
@@ -127,5 +127,20 @@ impl Log {
             Some(log) => log,
             None => self,
         }
+    }
+
+    /// Whether the store at a place is the first of its line.
+    pub fn is_first(&self, place: usize) -> bool
+        requires { place < length (log_of self.now) }
+        ensures { result ≡ is_first (lines_in (log_of self.now)) place }
+    {
+        let line = self.at(place).line;
+        for earlier in 0..place {
+            let store = self.stores[earlier];
+            if store.line == line {
+                return false;
+            }
+        }
+        true
     }
 }

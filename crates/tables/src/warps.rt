@@ -1,7 +1,7 @@
 //! What the warps are doing, and what changes it.
-ghost use Rattle.std.specs.Prelude.{◌≡◌, ◌<◌, true, false, [], ◌∷◌, ◌++◌, length, slice_set};
+ghost use Rattle.std.specs.Prelude.{◌≡◌, ◌<◌, true, false, [], ◌∷◌, ◌++◌, length, nat_lt, slice_set};
 ghost use Rattle.protocol.specs.Limits.{log_limit};
-ghost use Rattle.rules.specs.Queue.{request_of, without, is_full};
+ghost use Rattle.rules.specs.Queue.{request_of, requests_on, without, is_full};
 ghost use Rattle.rules.specs.State.{idle_at, in_phase, logging, is_waiting};
 ghost use Rattle.rules.specs.declared.state.Phase.TheVariants.{Open, Waiting, Settled};
 ghost use Rattle.tables.specs.Lists.{place_at};
@@ -27,20 +27,6 @@ impl Row {
         }
     }
 
-    /// The row in another phase.
-    fn in_phase(self, phase: Phase) -> Row
-        ensures lane { lane_in result ≡ in_phase (lane_in self) phase }
-        ensures long { result.len ≡ self.len }
-    {
-        let stores = self.stores;
-        Row {
-            phase,
-            stamp: self.stamp,
-            len: self.len,
-            stores,
-        }
-    }
-
     /// The row's log.
     fn log(&self) -> Log
         ensures { log_of result ≡ (lane_in self.now).log }
@@ -50,19 +36,6 @@ impl Row {
             return Log { len: 32, stores };
         };
         log
-    }
-
-    /// The row with another log.
-    fn with_log(self, log: Log) -> Row
-        ensures { lane_in result ≡ record { phase = self.phase; stamp = self.stamp; log = log_of log } }
-    {
-        let stores = log.stores;
-        Row {
-            phase: self.phase,
-            stamp: self.stamp,
-            len: log.len,
-            stores,
-        }
     }
 }
 
@@ -82,8 +55,7 @@ impl Tables {
         if place >= self.warps {
             return Phase::Idle;
         }
-        let row = self.rows[place];
-        row.phase
+        self.rows[place].phase
     }
 
     /// A warp's stamp.
@@ -94,8 +66,7 @@ impl Tables {
         if place >= self.warps {
             return 0;
         }
-        let row = self.rows[place];
-        row.stamp
+        self.rows[place].stamp
     }
 
     /// How many stores a warp has logged.
@@ -113,8 +84,7 @@ impl Tables {
         if place >= self.warps {
             return Log::new();
         }
-        let row = self.rows[place];
-        row.log()
+        self.rows[place].log()
     }
 
     /// A warp's request, if it has one.
@@ -138,6 +108,13 @@ impl Tables {
         self.queue.is_full(line)
     }
 
+    /// Whether a request waits for a line.
+    pub fn any_waits(&self, line: u32) -> bool
+        ensures { result ≡ nat_lt 0 (length (requests_on (queued self.now) line)) }
+    {
+        self.queue.count_on(line) > 0
+    }
+
     /// What a warp waits to do at a line, if it does.
     pub fn pending(&self, warp: u32, line: u32) -> Option<Access>
         ensures value { result ≡ pending_at (lanes self.now) (queued self.now) warp line }
@@ -155,27 +132,19 @@ impl Tables {
         Some(request.access)
     }
 
-    /// Sets the row of a warp that does not wait.
-    fn set_row(&mut self, warp: u32, row: Row)
+    /// Sets what a warp is doing and its stamp, with an empty log.
+    fn start(&mut self, warp: u32, phase: Phase, stamp: u64)
         requires { is_waiting (lane self.old warp).phase ≡ false }
-        ensures lanes { lanes self.new ≡ slice_set (lanes self.old) warp (lane_in row) }
+        ensures lanes { lanes self.new
+            ≡ slice_set (lanes self.old) warp (record { phase = phase; stamp = stamp; log = [] }) }
         ensures queue { queued self.new ≡ queued self.old }
     {
         let place = warp as usize;
         if place < self.warps {
-            self.rows[place] = row;
+            self.rows[place].phase = phase;
+            self.rows[place].stamp = stamp;
+            self.rows[place].len = 0;
         }
-    }
-
-    /// A warp's row.
-    fn row(&self, warp: u32) -> Row
-        ensures { lane_in result ≡ lane self.now warp }
-    {
-        let place = warp as usize;
-        if place >= self.warps {
-            return Row::idle(0);
-        }
-        self.rows[place]
     }
 
     /// Opens a transaction with an empty log.
@@ -185,8 +154,8 @@ impl Tables {
             ≡ slice_set (lanes self.old) warp (open_at (lane self.old warp).stamp) }
         ensures queue { queued self.new ≡ queued self.old }
     {
-        let row = Row::idle(self.stamp(warp));
-        self.set_row(warp, row.in_phase(Phase::Open));
+        let stamp = self.stamp(warp);
+        self.start(warp, Phase::Open, stamp);
     }
 
     /// Ends a transaction: the warp is idle at a stamp.
@@ -195,7 +164,7 @@ impl Tables {
         ensures lanes { lanes self.new ≡ slice_set (lanes self.old) warp (idle_at stamp) }
         ensures queue { queued self.new ≡ queued self.old }
     {
-        self.set_row(warp, Row::idle(stamp));
+        self.start(warp, Phase::Idle, stamp);
     }
 
     /// Lets a warp go on.
@@ -205,8 +174,10 @@ impl Tables {
             ≡ slice_set (lanes self.old) warp (in_phase (lane self.old warp) Open) }
         ensures queue { queued self.new ≡ queued self.old }
     {
-        let row = self.row(warp);
-        self.set_row(warp, row.in_phase(Phase::Open));
+        let place = warp as usize;
+        if place < self.warps {
+            self.rows[place].phase = Phase::Open;
+        }
     }
 
     /// Logs a store.
@@ -217,11 +188,15 @@ impl Tables {
             (logging (lane self.old warp) store.line store.value) }
         ensures queue { queued self.new ≡ queued self.old }
     {
-        let row = self.row(warp);
-        let Some(log) = row.log().push(store) else {
+        let Some(log) = self.log(warp).push(store) else {
             return;
         };
-        self.set_row(warp, row.with_log(log));
+        let place = warp as usize;
+        if place < self.warps {
+            let stores = log.stores;
+            self.rows[place].len = log.len;
+            self.rows[place].stores = stores;
+        }
     }
 
     /// Lets a request wait, behind all others.
@@ -234,9 +209,8 @@ impl Tables {
         ensures queue { queued self.new ≡ queued self.old ++ request ∷ [] }
     {
         let place = request.warp as usize;
-        let row = self.rows[place].in_phase(Phase::Waiting);
         let queue = self.queue.push(request);
-        self.rows[place] = row;
+        self.rows[place].phase = Phase::Waiting;
         self.queue = queue;
     }
 
@@ -248,12 +222,9 @@ impl Tables {
     {
         let place = warp as usize;
         let queue = self.queue.without(warp);
-        if place >= self.warps {
-            self.queue = queue;
-            return;
-        }
-        let row = self.rows[place].in_phase(Phase::Settled { outcome });
-        self.rows[place] = row;
         self.queue = queue;
+        if place < self.warps {
+            self.rows[place].phase = Phase::Settled { outcome };
+        }
     }
 }

@@ -1,7 +1,6 @@
 -- By the verdict.
-use Rattle.tables.specs.Pages.{lanes, queued}
 use Rattle.machine.specs.Meaning.{state}
-use Rattle.machine.proofs.Accessed.{by_verdict, on_own_line, going_on, being_lost, waiting_now}
+use Rattle.machine.proofs.Accessed.{by_verdict, on_own_line, going_on, being_lost}
 use Rattle.machine.proofs.state.Machine.access.Goals as goal
 
 pub returns-in-OwnLine : goal.returns-in-OwnLine
@@ -10,7 +9,7 @@ returns-in-OwnLine g c =
     let w = c.args.warp in
     let line = c.args.line in
     let access = c.args.access in
-    let done = by_verdict m w line access _ _ _ _ _ _ c.told.ensures c.time.ensures c.is_full-full.ensures
+    let done = by_verdict m w line access _ _ _ _ _ c.told.ensures c.time.ensures
     c.in-OwnLine.ensures
     (on_own_line m w line access _ c.serve_own.result _ c.serve_own.ensures.after
     c.serve_own.ensures.answer c.answer.ensures) in
@@ -22,9 +21,10 @@ returns-in-Lost g c =
     let w = c.args.warp in
     let line = c.args.line in
     let access = c.args.access in
-    let done = by_verdict m w line access _ _ _ _ _ _ c.told.ensures c.time.ensures c.is_full-full.ensures
+    let done = by_verdict m w line access _ _ _ _ _ c.told.ensures c.time.ensures
     c.in-Lost.ensures
-    (being_lost m w line access _ c.in-Lost.cause c.in-Lost.next c.end.ensures) in
+    (being_lost m w line access _ _ c.in-Lost.cause c.in-Lost.next c.lose.ensures.after
+    c.lose.ensures.answer) in
     record { after = done.machine; answer = done.says }
 
 pub returns-in-MustWait : goal.returns-in-MustWait
@@ -33,10 +33,9 @@ returns-in-MustWait g c =
     let w = c.args.warp in
     let line = c.args.line in
     let access = c.args.access in
-    let done = by_verdict m w line access _ _ _ _ _ _ c.told.ensures c.time.ensures c.is_full-full.ensures
+    let done = by_verdict m w line access _ _ _ _ _ c.told.ensures c.time.ensures
     c.in-MustWait.ensures
-    (waiting_now m w line access (lanes c.wait.new.self) (queued c.wait.new.self)
-    c.wait.ensures.lanes c.wait.ensures.queue) in
+    (record { machine = c.wait_or_lose.ensures.after; says = c.wait_or_lose.ensures.answer }) in
     record { after = done.machine; answer = done.says }
 
 pub returns-in-GoOn : goal.returns-in-GoOn
@@ -45,7 +44,7 @@ returns-in-GoOn g c =
     let w = c.args.warp in
     let line = c.args.line in
     let access = c.args.access in
-    let done = by_verdict m w line access _ _ _ _ _ _ c.told.ensures c.time.ensures c.is_full-full.ensures
+    let done = by_verdict m w line access _ _ _ _ _ c.told.ensures c.time.ensures
     c.in-GoOn.ensures
     (going_on m w line access _ c.serve.result _ c.serve.ensures.after c.serve.ensures.answer
     c.answer-in-GoOn.ensures) in

@@ -24,7 +24,7 @@ pub returns-in-Gone : goal.returns-in-Gone
 returns-in-Gone g c =
     let m = state g.M.Memory.at g.B.Book.kind g.B.Book.model c.args.self.now in
     let done = fetched_gone m c.args.warp
-    (state g.M.Memory.at g.B.Book.kind g.B.Book.model c.end.new.self) c.in-Gone.cause
+    (state g.M.Memory.at g.B.Book.kind g.B.Book.model c.lose.new.self) _ c.in-Gone.cause
     c.in-Gone.next
-    c.args.outcome c.in-Gone.is c.end.ensures in
+    c.args.outcome c.in-Gone.is c.lose.ensures.after c.lose.ensures.answer in
     record { after = done.machine; answer = done.says }

@@ -1,10 +1,7 @@
 -- By what is pending, and by the verdict.
 use Rattle.std.proofs.Common.{sym, ap, ◌∙◌, ⊎_elim}
-use Rattle.protocol.specs.declared.answer.Outcome.TheVariants.{Gone}
-use Rattle.tables.specs.Pages.{lanes}
 use Rattle.machine.specs.Meaning.{state}
 use Rattle.machine.specs.Verdicts.{verdict_as}
-use Rattle.machine.proofs.Served.{settled_is}
 use Rattle.machine.proofs.Turning.{not_tried, try_by, tried_lost, tried_on, tried_own, tried_again, verdict_here}
 use Rattle.machine.proofs.state.Machine.try_turn.Goals as goal
 
@@ -19,8 +16,7 @@ returns-in-Lost g c =
     let w = c.args.warp in
     let line = c.args.line in
     let access = c.in-Some.access in
-    settled_is m w line m (lanes c.settle.new.self) _ (Gone c.in-Lost.cause c.in-Lost.next)
-    c.settle.ensures.lanes c.settle.ensures.queue
+    c.come_out.ensures
     ∙ tried_lost m w line access c.in-Lost.cause c.in-Lost.next
     ∙ try_by m w line access _ c.in-Some.ensures.value
     (verdict_here m w line access _ _ _ c.told.ensures c.time.ensures c.in-Lost.ensures)

@@ -1,6 +1,6 @@
 -- One store more is written.
-use Rattle.std.proofs.Common.{◌<◌, length, refl, ◌∙◌, arith}
-use Rattle.tables.specs.Rows.{log_of, pair_of}
+use Rattle.std.proofs.Common.{◌<◌, length, get_or, refl, ◌∙◌, arith}
+use Rattle.tables.specs.Rows.{log_of}
 use Rattle.machine.specs.Meaning.{state}
 use Rattle.machine.proofs.Folds.{write_more, write_end}
 use Rattle.machine.proofs.state.Machine.write_back.Goals as goal
@@ -11,9 +11,9 @@ loop-place-preserved g c =
     let l = c.loop-place in
     let stores = log_of c.log-log.result in
     let low : l.place < length stores = omega arith in
-    c.write_store.ensures
+    c.write_at.ensures
     ∙ write_more m (state g.M.Memory.at g.B.Book.kind g.B.Book.model l.self) _ stores l.place
-    (pair_of c.at.result) low l.invariant c.at.ensures refl
+    (get_or stores l.place (0, 0)) low l.invariant refl refl
 
 pub returns : goal.returns
 returns g c =

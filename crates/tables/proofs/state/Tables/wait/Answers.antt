@@ -1,7 +1,6 @@
 -- A request may come of a warp that does not wait, if its log has room.
-use Rattle.std.proofs.Common.{ℕ, ◌<◌, false, length, set, sym, ap, ◌∙◌, subst, arith}
+use Rattle.std.proofs.Common.{ℕ, ◌<◌, false, length, set, sym, refl, ◌∙◌, subst, arith}
 use Rattle.std.proofs.lemmas.List.{length-set}
-use Rattle.rules.specs.State.{Lane, is_waiting}
 use Rattle.tables.specs.Lists.{places}
 use Rattle.tables.specs.Pages.{lanes}
 use Rattle.tables.specs.Sound.{Sound}
@@ -42,38 +41,19 @@ push-queue-requires c =
     let room = room_for_one t.rows (places t.queue) c.args.request.warp t.sound (omega arith) free in
     omega arith
 
-pub listed-2 : goal.listed-2
-listed-2 c =
-    let t = c.args.self.now in
-    let table = t.table in
-    let count = t.count in
-    let low = inside t c.args.request.warp c.requires.inside in
-    omega arith
-
-pub bounds-self-place-2 : goal.bounds-self-place-2
-bounds-self-place-2 c =
-    let t = c.args.self.now in
-    let count = t.count in
-    let low = inside t c.args.request.warp c.requires.inside in
-    omega arith
-
-pub invariant_of-self : goal.invariant_of-self
-invariant_of-self c =
+pub invariant_of-self-2 : goal.invariant_of-self-2
+invariant_of-self-2 c =
     let t = c.args.self.now in
     let table = t.table in
     let count = t.count in
     let r = c.args.request in
-    let row = c.in_phase-row.result in
     let low = inside t r.warp c.requires.inside in
     record {
-      table = length-set t.rows r.warp row ∙ table;
+      table = length-set t.rows r.warp _ ∙ table;
       count = count;
-      sound =
-          subst (Sound (set t.rows r.warp row)) (sym c.push-queue.ensures)
-          (waits_sound t.warps t.rows (places t.queue) r row _ (omega arith) t.sound low
-          c.requires.free c.requires.room
-          (ap (λ (l : Lane). is_waiting l.phase) c.in_phase-row.ensures.lane)
-          c.in_phase-row.ensures.long);
+      sound = subst (Sound (set t.rows r.warp _)) (sym c.push-queue.ensures)
+          (waits_sound t.warps t.rows (places t.queue) r _ c.index-self-place.result (omega arith)
+          t.sound low c.requires.free c.requires.room refl refl);
     }
 
 pub returns : goal.returns
@@ -84,6 +64,6 @@ returns c =
     let r = c.args.request in
     let low = inside t r.warp c.requires.inside in
     record {
-      lanes = lanes_in_phase t.warps t.rows r.warp _ _ _ low (omega arith) c.in_phase-row.ensures.lane;
+      lanes = lanes_in_phase t.warps t.rows r.warp _ c.index-self-place.result _ low (omega arith) refl;
       queue = c.push-queue.ensures;
     }

@@ -1,0 +1,26 @@
+-- By whether the queue is full for the line.
+use Rattle.std.proofs.Common.{true, false, sym, ◌∙◌}
+use Rattle.machine.specs.Meaning.{state}
+use Rattle.machine.proofs.Accessed.{by_room, lost_for_room, waiting_now}
+use Rattle.machine.proofs.state.Machine.wait_or_lose.Goals as goal
+
+pub returns-then-is_full : goal.returns-then-is_full
+returns-then-is_full g c =
+    let m = state g.M.Memory.at g.B.Book.kind g.B.Book.model c.args.self.now in
+    let w = c.args.warp in
+    let line = c.args.line in
+    let access = c.args.access in
+    let done = by_room m w line access _ _ true (sym c.is_full.ensures ∙ c.if-is_full.true)
+    (lost_for_room m w line access _ _ c.stamp-stamp.result c.stamp-stamp.ensures c.lose.ensures.after
+    c.lose.ensures.answer) in
+    record { after = done.machine; answer = done.says }
+
+pub returns : goal.returns
+returns g c =
+    let m = state g.M.Memory.at g.B.Book.kind g.B.Book.model c.args.self.now in
+    let w = c.args.warp in
+    let line = c.args.line in
+    let access = c.args.access in
+    let done = by_room m w line access _ _ false (sym c.is_full.ensures ∙ c.if-is_full.false)
+    (waiting_now m w line access _ c.join_queue.ensures) in
+    record { after = done.machine; answer = done.says }

@@ -3,9 +3,8 @@ ghost use Rattle.std.specs.Prelude.{◌≡◌, ◌<◌, max};
 ghost use Rattle.protocol.specs.Limits.{line_limit};
 ghost use Rattle.book.specs.Meaning.{New};
 ghost use Rattle.book.specs.Exact.{exact, exact_new, entry_at, with_entry, FitsBy};
-ghost use Rattle.book.specs.Pages.{exact_page};
+ghost use Rattle.book.specs.Pages.{exact_page, good_page};
 ghost use Rattle.book.specs.ExactKeeps.{exact_keeps};
-ghost use Rattle.std.proofs.Common.{rules, arith};
 
 use crate::entry::{Entry, can_be};
 use crate::exact::ExactBook;
@@ -52,7 +51,7 @@ impl Book for ExactBook {
 
     ghost keeps = { exact_keeps };
 
-    ghost good = { first_of (Prim.search rules, Prim.grind (arith, Self.row.coded.inj)) };
+    ghost good = { good_page };
 
     fn write_stamp(&self, line: u32) -> u32 {
         self.at(line).stamps.write

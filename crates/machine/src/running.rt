@@ -23,8 +23,8 @@ pub struct Ran<M, B> {
 
 /// Makes a machine and turns a list of calls. Answers and machine are those of the rules. Whatever the memory and the
 /// book, the account of the run is that of its committed transactions run alone, exactly in the orders that keep
-/// logical
-/// time among those that clash; and from every waiting warp, stamps fall from holder to holder until one does not wait.
+/// logical time among those that clash; and from every waiting warp, stamps fall from holder to holder until one does
+/// not wait.
 pub fn run<M: Memory + Drop, B: Book + Drop>(
     heap: Global,
     memory: M,

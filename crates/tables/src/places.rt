@@ -114,8 +114,7 @@ impl Queue {
     }
 
     /// Whether there is no room for one more request for a line: the line has all that it may have, or it has none
-    /// while
-    /// as many lines as may wait at once have some.
+    /// while as many lines as may wait at once have some.
     pub fn is_full(&self, line: u32) -> bool
         ensures { result ≡ is_full 4 4 (places self.now) line }
     {

@@ -1,4 +1,4 @@
-//! The library by example: a machine over two banks of memory, a few calls, and what its tables tell.
+//! The library by example: a machine over two banks of memory, a few calls, and what its memory and its book tell.
 #![tactic(auto)]
 
 use book::exact::ExactBook;

@@ -9,9 +9,9 @@ use Rattle.rules.specs.State.{Machine, with_book}
 use Rattle.tables.specs.Rows.{lines_in, is_first}
 use Rattle.machine.specs.Moves.{new_at, releasing}
 
-or-false : (b : Bool) → (b || false) ≡ b
-or-false true = refl
-or-false false = refl
+or_false : (b : Bool) → (b || false) ≡ b
+or_false true = refl
+or_false false = refl
 
 or_regroup : (a b c : Bool) → ((a || b) || c) ≡ (a || (b || c))
 or_regroup true b c = refl
@@ -19,7 +19,7 @@ or_regroup false b c = refl
 
 -- A number stands among the distinct ones of a list exactly when it stands in the list.
 has_end : (z : ℕ) (xs : List ℕ) (x : ℕ) → has z (xs ++ x ∷ []) ≡ (has z xs || eqb x z)
-has_end z [] x = or-false (eqb x z)
+has_end z [] x = or_false (eqb x z)
 has_end z (y ∷ ys) x =
     ap (λ b. eqb y z || b) (has_end z ys x) ∙ sym (or_regroup (eqb y z) (has z ys) (eqb x z))
 
@@ -33,11 +33,11 @@ has_push_new z seen x = by (has x seen) refl
         (λ p.
         let h : has z seen ≡ true = subst (λ y. has y seen ≡ true) (eqb-true x z p) e in
         h ∙ sym (or_left (has z seen) (eqb x z) h))
-        (λ p. sym (ap (λ b. has z seen || b) p ∙ or-false (has z seen)))
+        (λ p. sym (ap (λ b. has z seen || b) p ∙ or_false (has z seen)))
         (cases_Bool (eqb x z))
 
 has_from : (z : ℕ) (xs seen : List ℕ) → has z (fold push_new seen xs) ≡ (has z seen || has z xs)
-has_from z [] seen = sym (or-false (has z seen))
+has_from z [] seen = sym (or_false (has z seen))
 has_from z (x ∷ xs) seen =
     has_from z xs (push_new seen x) ∙ ap (λ b. b || has z xs) (has_push_new z seen x)
     ∙ or_regroup (has z seen) (eqb x z) (has z xs)

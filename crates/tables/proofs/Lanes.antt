@@ -38,8 +38,8 @@ pub lanes_set_past :
 lanes_set_past n rows w lane l m =
     sym (set_past (lanes_in n rows) w lane (let e = lanes_length n rows m in omega arith))
 
-abbrev lane_of : Phase → ℕ → List (ℕ × ℕ) → Lane
-lane_of phase stamp log = record { phase = phase; stamp = stamp; log = log }
+abbrev lane_made : Phase → ℕ → List (ℕ × ℕ) → Lane
+lane_made phase stamp log = record { phase = phase; stamp = stamp; log = log }
 
 -- A row in another phase.
 pub lanes_in_phase :
@@ -81,9 +81,9 @@ module _ (n : ℕ) (rows : List Row) (w : ℕ) where
       ∙ ap (λ ls. set ls w (lane_in third)) (lanes_again first second)
       ∙ set-set (lanes_in n rows) w (lane_in second) (lane_in third)
       ∙ ap (set (lanes_in n rows) w)
-      (ap (λ x. lane_of x third.stamp (logged third.len third.stores)) a
-      ∙ ap (λ x. lane_of phase x (logged third.len third.stores)) b
-      ∙ ap (λ x. lane_of phase stamp (logged x third.stores)) u)
+      (ap (λ x. lane_made x third.stamp (logged third.len third.stores)) a
+      ∙ ap (λ x. lane_made phase x (logged third.len third.stores)) b
+      ∙ ap (λ x. lane_made phase stamp (logged x third.stores)) u)
 
   pub lanes_logged :
       (first second d e : Row) (len : ℕ) (stores : List Store) (s : ℕ × ℕ) → w < n → n ≤ length rows
@@ -108,9 +108,9 @@ module _ (n : ℕ) (rows : List Row) (w : ℕ) where
       ap (λ o. logged o second.stores) (z ∙ ap (λ (o : Row). o.len) is ∙ r) ∙ ap (logged len) v in
       lanes_again first second
       ∙ ap (set (lanes_in n rows) w)
-      (ap (λ o. lane_of o second.stamp (logged second.len second.stores)) a
-      ∙ ap (λ o. lane_of (get_or (lanes_in n rows) w (idle_at 0)).phase o (logged second.len second.stores)) b
-      ∙ ap (lane_of (get_or (lanes_in n rows) w (idle_at 0)).phase (get_or (lanes_in n rows) w (idle_at 0)).stamp)
+      (ap (λ o. lane_made o second.stamp (logged second.len second.stores)) a
+      ∙ ap (λ o. lane_made (get_or (lanes_in n rows) w (idle_at 0)).phase o (logged second.len second.stores)) b
+      ∙ ap (lane_made (get_or (lanes_in n rows) w (idle_at 0)).phase (get_or (lanes_in n rows) w (idle_at 0)).stamp)
       (c ∙ log))
 
 -- A log longer than a row's places is all of them.

@@ -19,17 +19,11 @@ impl<'a> Memory for ByteMemory<'a> {
     ghost spare = { λ m. odd_bytes m.bytes.now };
 
     fn read(&self, line: u32) -> Result<u32, Fault> {
-        let place = line as usize;
-        if place >= self.bytes.len() / 4 {
-            return Err(no_such_line(line));
+        let first = 4 * line as usize;
+        match self.bytes.get(first..first + 4) {
+            Some([a, b, c, d]) => Ok(u32::from_le_bytes([*a, *b, *c, *d])),
+            _ => Err(no_such_line(line)),
         }
-        let first = 4 * place;
-        Ok(u32::from_le_bytes([
-            self.bytes[first],
-            self.bytes[first + 1],
-            self.bytes[first + 2],
-            self.bytes[first + 3],
-        ]))
     }
 
     fn write(&mut self, line: u32, value: u32) -> Result<(), Fault> {
@@ -37,6 +31,7 @@ impl<'a> Memory for ByteMemory<'a> {
         if place >= self.bytes.len() / 4 {
             return Err(no_such_line(line));
         }
+        // Tried get_mut and copy_from_slice on the four bytes: what the slice then holds stayed without a proof.
         let first = 4 * place;
         let [a, b, c, d] = value.to_le_bytes();
         self.bytes[first] = a;

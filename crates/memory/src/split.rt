@@ -20,26 +20,21 @@ impl<E: Memory, O: Memory> Memory for SplitMemory<E, O> {
     ghost spare = { λ m. E.Memory.spare m.even ++ O.Memory.spare m.odd };
 
     fn read(&self, line: u32) -> Result<u32, Fault> {
-        let answer = if line % 2 == 0 {
+        let value = if line % 2 == 0 {
             self.even.read(line / 2)
         } else {
             self.odd.read((line - 1) / 2)
         };
-        match answer {
-            Ok(value) => Ok(value),
-            Err(fault) => Err(fault.told_of(u64::from(line))),
-        }
+        value.map_err(|fault| fault.told_of(u64::from(line)))
     }
 
+    // Of the shape of `read`, but a part is lent for writing here, which no one function picks for both.
     fn write(&mut self, line: u32, value: u32) -> Result<(), Fault> {
-        let answer = if line % 2 == 0 {
+        let done = if line % 2 == 0 {
             self.even.write(line / 2, value)
         } else {
             self.odd.write((line - 1) / 2, value)
         };
-        match answer {
-            Ok(()) => Ok(()),
-            Err(fault) => Err(fault.told_of(u64::from(line))),
-        }
+        done.map_err(|fault| fault.told_of(u64::from(line)))
     }
 }

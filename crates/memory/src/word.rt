@@ -19,14 +19,12 @@ impl<'a> Memory for WordMemory<'a> {
     ghost spare = { λ _. [] };
 
     fn read(&self, line: u32) -> Result<u32, Fault> {
-        let place = line as usize;
-        if place >= self.words.len() {
-            return Err(no_such_line(line));
-        }
-        Ok(self.words[place])
+        let word = self.words.get(line as usize).copied();
+        word.ok_or(no_such_line(line))
     }
 
     fn write(&mut self, line: u32, value: u32) -> Result<(), Fault> {
+        // Tried get_mut: once the loan of an element is over, a proof knows no element of the slice.
         let place = line as usize;
         if place >= self.words.len() {
             return Err(no_such_line(line));

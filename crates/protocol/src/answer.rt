@@ -1,14 +1,16 @@
 //! What the machine answers, and how a load or a store comes out.
-ghost use Rattle.std.specs.Prelude.{◌≡◌};
-ghost use Rattle.protocol.specs.Answers.{answer_of, answer_word, cause_number};
+ghost use Rattle.std.specs.Prelude.{◌≡◌, Some};
+ghost use Rattle.protocol.specs.Answers.{answer_of, answer_word, answer_text, cause_number};
+ghost use Rattle.protocol.specs.declared.answer.Answer.TheVariants.{No};
 
 use crate::fault::Fault;
+use std::fmt;
 
-/// Why a transaction is gone.
+/// Why a transaction is gone, in the order of the numbers that listings print.
 #[derive(Clone, Copy, PartialEq, Eq, Debug)]
 pub enum Cause {
     /// A logically later transaction wrote the line.
-    WrittenLater,
+    WrittenLater = 1,
     /// A logically later transaction read the line that is to be stored to.
     ReadLater,
     /// The line is reserved and the queue has no place for the request.
@@ -17,6 +19,8 @@ pub enum Cause {
     NoSlot,
 }
 
+// The cause and the next stamp stand in the variants themselves: a struct of the two would have no method, and each
+// match would name it besides.
 /// How a load or a store comes out.
 #[derive(Clone, Copy, PartialEq, Eq, Debug)]
 pub enum Outcome {
@@ -48,25 +52,29 @@ impl Cause {
     pub fn number(self) -> u8
         ensures { result ≡ cause_number self }
     {
-        match self {
-            Cause::WrittenLater => 1,
-            Cause::ReadLater => 2,
-            Cause::QueueFull => 3,
-            Cause::NoSlot => 4,
-        }
+        self as u8
     }
 }
 
-impl Outcome {
-    /// The answer that tells the outcome.
-    pub fn answer(self) -> Answer
-        ensures { result ≡ answer_of self }
-    {
-        match self {
+/// The answer that tells an outcome.
+impl From<Outcome> for Answer {
+    ghost from_gives = { λ outcome answer. answer ≡ answer_of outcome };
+
+    fn from(outcome: Outcome) -> Answer {
+        match outcome {
             Outcome::Value { value } => Answer::Val { value },
             Outcome::Stored => Answer::Ok,
             Outcome::Gone { cause, next } => Answer::Gone { cause, next },
         }
+    }
+}
+
+/// The answer to a call that is refused.
+impl From<Fault> for Answer {
+    ghost from_gives = { λ fault answer. answer ≡ No fault };
+
+    fn from(fault: Fault) -> Answer {
+        Answer::No { fault }
     }
 }
 
@@ -77,10 +85,25 @@ impl Answer {
     {
         match self {
             Answer::Ok => "ok",
-            Answer::Val { value: _ } => "val",
+            Answer::Val { .. } => "val",
             Answer::Wait => "wait",
-            Answer::Gone { cause: _, next: _ } => "gone",
-            Answer::No { fault: _ } => "no",
+            Answer::Gone { .. } => "gone",
+            Answer::No { .. } => "no",
+        }
+    }
+}
+
+/// The answer as listings print it: its word, and the numbers that it tells.
+impl fmt::Display for Answer {
+    ghost output = { λ answer. Some (answer_text answer) };
+
+    fn fmt<W: fmt::Write>(&self, f: &mut fmt::Formatter<W>) -> fmt::Result {
+        let word = self.word();
+        match *self {
+            Answer::Ok | Answer::Wait => write!(f, "{word}"),
+            Answer::Val { value } => write!(f, "{word} {value}"),
+            Answer::Gone { cause, next } => write!(f, "{word} {} {next}", cause.number()),
+            Answer::No { fault } => write!(f, "{word} {}", fault.refusal.number()),
         }
     }
 }

@@ -27,20 +27,22 @@ pub struct Call {
 }
 
 impl Op {
+    // No From: it is the way back of `named`, which is no TryFrom, and reads as such beside it.
     /// The letter by which calls files and listings name what is asked for.
     pub fn letter(self) -> char
         ensures { result ≡ op_letter self }
     {
         match self {
             Op::Begin => 'B',
-            Op::Load { line: _ } => 'L',
-            Op::Store { line: _, value: _ } => 'S',
+            Op::Load { .. } => 'L',
+            Op::Store { .. } => 'S',
             Op::Commit => 'C',
             Op::Drop => 'D',
             Op::Fetch => 'F',
         }
     }
 
+    // A form that is fixed (docs/DECISIONS.md): a match on char literals. A letter alone makes no call: no TryFrom.
     /// What a letter asks for, at a line and a value that only loads and stores have a use for.
     pub fn named(letter: char, line: u32, value: u32) -> Option<Op>
         ensures answer { result ≡ op_named letter line value }

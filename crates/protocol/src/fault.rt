@@ -6,7 +6,7 @@ ghost use Rattle.protocol.specs.Faults.{refusal_number, NumbersTellApart, fault_
 #[derive(Clone, Copy, PartialEq, Eq, Debug)]
 pub enum Refusal {
     /// The machine has no such warp.
-    NoSuchWarp,
+    NoSuchWarp = 1,
     /// Any call but begin, on an idle warp.
     WarpIdle,
     /// Begin, on a warp that is not idle.
@@ -60,23 +60,7 @@ impl Refusal {
         ensures answer { result ≡ refusal_number self }
         ensures apart { NumbersTellApart }
     {
-        match self {
-            Refusal::NoSuchWarp => 1,
-            Refusal::WarpIdle => 2,
-            Refusal::WarpNotIdle => 3,
-            Refusal::OutcomePending => 4,
-            Refusal::NothingToFetch => 5,
-            Refusal::NoSuchLine => 6,
-            Refusal::LogFull => 7,
-            Refusal::ClockSpent => 8,
-            Refusal::BadSize => 9,
-            Refusal::BadStamp => 10,
-            Refusal::BadMark => 11,
-            Refusal::BadVersion => 12,
-            Refusal::CutShort => 13,
-            Refusal::BadLetter => 14,
-            Refusal::TooManyRows => 15,
-        }
+        self as u8
     }
 }
 
@@ -100,11 +84,7 @@ impl Fault {
     pub fn told_of(self, number: u64) -> Fault
         ensures { result ≡ told_of self number }
     {
-        Fault {
-            refusal: self.refusal,
-            layer: self.layer,
-            number,
-        }
+        Fault { number, ..self }
     }
 
     /// What is wrong with a calls file, and at which byte, counted from 0.

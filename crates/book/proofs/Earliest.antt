@@ -5,6 +5,7 @@ use Rattle.protocol.specs.Limits.{line_limit, log_limit}
 use Rattle.book.specs.Time.{earlier}
 use Rattle.book.specs.Meaning.{Kind, Keeps, New, Grows, can_note, reserved}
 use Rattle.book.specs.Entries.{untouched, entry_read, entry_held, entry_more, entry_freed}
+use Rattle.book.specs.Entries.{stores_told, owner_told, warp_or_first}
 use Rattle.book.specs.Exact.{Exact, exact, exact_new, entry_at, with_entry}
 use Rattle.book.specs.Earliest.{grants, made, next, next_both, run_both, Earliest}
 use Rattle.book.specs.Grants.{granted}
@@ -14,7 +15,7 @@ use Rattle.book.specs.declared.call.BookCall.{BookCall}
 use Rattle.book.specs.declared.call.BookCall.TheVariants.{Note, Reserve, Add, Release}
 use Rattle.book.specs.Order.{mark_chain, mark_first, later_least}
 use Rattle.book.specs.Tables.{set_cases}
-use Rattle.book.specs.ExactKeeps.{exact_keeps, good_new, new_entry, numbered}
+use Rattle.book.specs.ExactKeeps.{exact_keeps, good_new, new_entry, numbered, stores_by}
 
 module _ (k : Kind) (keeps : Keeps k) where
   -- What stays true of the two books: the exact one is no later, and both count the same stores.
@@ -23,7 +24,7 @@ module _ (k : Kind) (keeps : Keeps k) where
     fine : exact.Good e
     stamps : (n : ℕ) → n < line_limit → (entry_at e n).stamps.write ≤ k.write_stamp s n
     marks : (n : ℕ) → n < line_limit → earlier (k.read_mark s n) (entry_at e n).stamps.read ≡ false
-    counts : (n : ℕ) → n < line_limit → (entry_at e n).stores ≡ k.stores s n
+    counts : (n : ℕ) → n < line_limit → stores_told (entry_at e n) ≡ k.stores s n
 
   -- One entry of the exact book is set, as late as the other book tells of the line.
   module _ (s s' : k.State) (e : Exact) (f : Follows s e) (line : ℕ) (lt : line < line_limit) (x : Entry)
@@ -31,7 +32,7 @@ module _ (k : Kind) (keeps : Keeps k) where
     follows_with :
         k.Good s' → exact.Good (with_entry e line x stamp) → Grows k s s'
         → x.stamps.write ≤ k.write_stamp s' line → earlier (k.read_mark s' line) x.stamps.read ≡ false
-        → x.stores ≡ k.stores s' line → ((n : ℕ) → n < line_limit → (n ≡ line → ⊥) → k.stores s' n ≡ k.stores s n)
+        → stores_told x ≡ k.stores s' line → ((n : ℕ) → n < line_limit → (n ≡ line → ⊥) → k.stores s' n ≡ k.stores s n)
         → Follows s' (with_entry e line x stamp)
     follows_with good fine grows w r c same =
         record {
@@ -45,16 +46,18 @@ module _ (k : Kind) (keeps : Keeps k) where
               (λ is. subst (λ m. earlier (k.read_mark s' m) x.stamps.read ≡ false) (sym is) r)
               (λ _. mark_chain (entry_at e n).stamps.read (k.read_mark s n) (k.read_mark s' n) (f.marks n l)
               (grows.mark_grows n l));
-          counts = λ n l. set_cases (λ y. y.stores ≡ k.stores s' n) e.entries line n x untouched room
-              (λ is. subst (λ m. x.stores ≡ k.stores s' m) (sym is) c)
+          counts = λ n l. set_cases (λ y. stores_told y ≡ k.stores s' n) e.entries line n x untouched room
+              (λ is. subst (λ m. stores_told x ≡ k.stores s' m) (sym is) c)
               (λ ne. f.counts n l ∙ sym (same n l ne));
         }
       where
         room : line < length e.entries
-        room = subst (λ m. line < m) (sym f.fine.0) lt
+        room = subst (λ m. line < m) (sym f.fine.whole) lt
 
   module _ (s : k.State) (e : Exact) (f : Follows s e) where
-    same_count : (line : ℕ) → line < line_limit → (P : ℕ → Type 0) → P (k.stores s line) → P (entry_at e line).stores
+    same_count :
+        (line : ℕ) → line < line_limit → (P : ℕ → Type 0) → P (k.stores s line)
+        → P (stores_told (entry_at e line))
     same_count line lt P h = subst P (sym (f.counts line lt)) h
 
     too : (call : BookCall) → grants k s call ≡ true → grants exact e call ≡ true
@@ -109,7 +112,8 @@ module _ (k : Kind) (keeps : Keeps k) where
         follows_with s (k.add s line) e f line lt (entry_more (entry_at e line)) 0 there.0 here.0 grows
         (omega arith)
         (mark_chain _ (k.read_mark s line) _ (f.marks line lt) (grows.mark_grows line lt))
-        (ap (λ m. m + 1) (f.counts line lt) ∙ sym there.1.one_more) (λ n l ne. (there.1.stays n l ne).same_stores)
+        (stores_by (warp_or_first (owner_told (entry_at e line))) _ ∙ ap (λ m. m + 1) (f.counts line lt)
+        ∙ sym there.1.one_more) (λ n l ne. (there.1.stays n l ne).same_stores)
     granted_step (Release line) can =
         let lt : line < line_limit = ltb-true line line_limit can in
         let there = keeps.releases s f.good line can in
@@ -151,7 +155,7 @@ module _ (k : Kind) (keeps : Keeps k) where
         stamps = λ n l. subst (λ x. x.stamps.write ≤ k.write_stamp s n) (sym (new_entry n)) (omega arith);
         marks = λ n l. subst (λ x. earlier (k.read_mark s n) x.stamps.read ≡ false) (sym (new_entry n))
             (mark_first (k.read_mark s n));
-        counts = λ n l. ap (λ x. x.stores) (new_entry n) ∙ sym (new.no_store n l);
+        counts = λ n l. ap stores_told (new_entry n) ∙ sym (new.no_store n l);
       }
 
   pub exact_is_earliest : Earliest k
@@ -170,7 +174,7 @@ module _ (k : Kind) (s s' : k.State) (e e' : Exact) (call : BookCall) (after : s
           (b : Bool) → s' ≡ cond b (made k s call) s → Ok tt ≡ granted b
           → ◌≡◌ {A = k.State × Exact} (s', e') (cond b (made k s call, next exact e call) (s, e))
       by true is h = λ i. (is i, also i)
-      by false is h = absurd (let z : ◌≡◌ {A = ℕ} 0 1 = cc in omega arith)
+      by false is h = absurd cc
 
   pub neither_made : (r : Refused) → Err r ≡ granted (grants k s call) → (s', e) ≡ next_both k (s, e) call
   neither_made r answer = by (grants k s call) after answer
@@ -178,5 +182,5 @@ module _ (k : Kind) (s s' : k.State) (e e' : Exact) (call : BookCall) (after : s
       by :
           (b : Bool) → s' ≡ cond b (made k s call) s → Err r ≡ granted b
           → ◌≡◌ {A = k.State × Exact} (s', e) (cond b (made k s call, next exact e call) (s, e))
-      by true is h = absurd (let z : ◌≡◌ {A = ℕ} 0 1 = cc in omega arith)
+      by true is h = absurd cc
       by false is h = λ i. (is i, e)

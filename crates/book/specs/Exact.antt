@@ -2,13 +2,16 @@
 use Rattle.std.specs.Prelude.{◌≡◌, ℕ, ◌+◌, ◌<◌, ◌≤◌, max, List, length, get_or, replicate, nat_lt, slice_index_or, slice_set}
 use Rattle.protocol.specs.Limits.{line_limit}
 use Rattle.book.specs.Meaning.{Kind}
-use Rattle.book.specs.Entries.{untouched, entry_read, entry_held, entry_more, entry_freed, owner_told}
+use Rattle.book.specs.Entries.{untouched, entry_read, entry_held, entry_more, entry_freed, stores_told, owner_told}
 use Rattle.book.specs.declared.entry.Entry.{Entry}
 
 -- What the book has: an entry for each line, line 0 first, and the latest stamp.
 pub record Exact : Type 0 where
   pub entries : List Entry
   pub latest : ℕ
+
+abbrev pub page_of : List Entry → ℕ → Exact
+page_of entries latest = record { entries = entries; latest = latest }
 
 -- The tables that come up: an entry for each line,
 abbrev pub Whole : List Entry → Type 0
@@ -23,11 +26,20 @@ ReadBy entries latest = (n : ℕ) → (get_or entries n untouched).stamps.read.0
 
 -- and a write stamp for every line that stores hold.
 abbrev pub HeldStamped : List Entry → Type 0
-HeldStamped entries = (n : ℕ) → 0 < (get_or entries n untouched).stores → 0 < (get_or entries n untouched).stamps.write
+HeldStamped entries =
+    (n : ℕ) → 0 < stores_told (get_or entries n untouched) → 0 < (get_or entries n untouched).stamps.write
+
+-- All of it together.
+pub record Sound (s : Exact) : Type 0 where
+  pub whole : Whole s.entries
+  pub written : WrittenBy s.entries s.latest
+  pub read : ReadBy s.entries s.latest
+  pub stamped : HeldStamped s.entries
 
 -- An entry fits into such a table with a latest stamp.
 abbrev pub FitsBy : ℕ → Entry → Type 0
-FitsBy latest e = (e.stamps.write ≤ latest) × (e.stamps.read.0 ≤ latest) × (0 < e.stores → 0 < e.stamps.write)
+FitsBy latest e =
+    (e.stamps.write ≤ latest) × (e.stamps.read.0 ≤ latest) × (0 < stores_told e → 0 < e.stamps.write)
 
 module _ (s : Exact) where
   -- What is told of a line. A line without a number is told as one that no call named yet.
@@ -43,12 +55,11 @@ abbrev pub exact : Kind
 exact =
     record {
       State = Exact;
-      Good = λ s. Whole s.entries × WrittenBy s.entries s.latest × ReadBy s.entries s.latest
-          × HeldStamped s.entries;
+      Good = Sound;
       slots = line_limit;
       write_stamp = λ s line. (entry_at s line).stamps.write;
       read_mark = λ s line. (entry_at s line).stamps.read;
-      stores = λ s line. (entry_at s line).stores;
+      stores = λ s line. stores_told (entry_at s line);
       owner = λ s line. owner_told (entry_at s line);
       has_slot = λ s line. nat_lt line line_limit;
       latest = λ s. s.latest;

@@ -1,44 +1,77 @@
 -- The exact book keeps what every book must.
-use Rattle.std.specs.Prelude.{◌≡◌, ℕ, zero, suc, ◌+◌, ◌<◌, ◌≤◌, max, Bool, true, false, cond, not, ◌&&◌, length, replicate, Some, None, ◌==◌, ◌≢◌, nat_lt, slice_index_or, slice_set}
+use Rattle.std.specs.Prelude.{◌≡◌, ℕ, zero, suc, ◌+◌, ◌<◌, ◌≤◌, max, Bool, true, false, not, ◌&&◌, length, replicate, Some, None, Option, ◌==◌, ◌≢◌, nat_lt, slice_index_or, slice_set}
 use Rattle.std.proofs.Common.{⊎_elim, sym, ◌∙◌, length-set, get_or-set_same, get_or-set_other}
 use Rattle.std.proofs.Math.Path.{refl, ap, subst}
+use Rattle.std.specs.Coded.{le_prop}
+use Rattle.std.proofs.Math.Nat.{zero-lt-suc}
 use native.Mathlib.Omega.{arith}
-use Rattle.std.proofs.lemmas.Bool.{cases_eq, ne_eqb, not-true, not-false, cond-true, cond-false, eqb-false, lt-ltb, ltb-true, and_parts}
+use Rattle.std.proofs.lemmas.Bool.{cases_eq, not-true, not-false, eqb-true, eqb-false}
+use Rattle.std.proofs.lemmas.Bool.{lt-ltb, ltb-true, and_parts}
 use Rattle.protocol.specs.Limits.{line_limit}
 use Rattle.book.specs.Time.{Time, earlier}
 use Rattle.book.specs.Meaning.{Keeps, New, Tells, Notes, Reserves, Adds, Releases, Grows, Stays}
 use Rattle.book.specs.Entries.{untouched, read_at, written_at, entry_read, entry_held, entry_more, entry_freed}
-use Rattle.book.specs.Entries.{owner_told}
+use Rattle.book.specs.Entries.{stores_of, owner_of, stores_told, owner_told, hold_by, warp_or_first}
 use Rattle.book.specs.Exact.{Exact, exact, exact_new, entry_at, with_entry, FitsBy}
+use Rattle.book.specs.declared.entry.Hold.{Hold}
 use Rattle.book.specs.declared.entry.Entry.{Entry}
 use Rattle.book.specs.Order.{NoEarlier, stamps_same, raised_first, raised_second, later_bound}
 use Rattle.book.specs.Tables.{set_any, set_cases}
 
--- A line has an owner exactly while stores hold it.
-pub held_has_owner : (e : Entry) → not (e.stores == 0) ≡ true → owner_told e ≡ Some e.warp
-held_has_owner e h = cond-false (e.stores == 0) None (Some e.warp) (not-true (e.stores == 0) h)
-
-pub free_has_none : (e : Entry) → not (e.stores == 0) ≡ false → owner_told e ≡ None
-free_has_none e h = cond-true (e.stores == 0) None (Some e.warp) (not-false (e.stores == 0) h)
-
--- One store more leaves the owner of a line that stores hold.
-pub same_owner_told : (n w : ℕ) → 0 < n → cond (n + 1 == 0) None (Some w) ≡ cond (n == 0) None (Some w)
-same_owner_told n w h =
-    cond-false (n + 1 == 0) None (Some w) (ne_eqb (n + 1) 0 (omega arith))
-    ∙ sym (cond-false (n == 0) None (Some w) (ne_eqb n 0 (omega arith)))
-
 pub held_counts : (n : ℕ) → not (n == 0) ≡ true → 0 < n
 held_counts n h = let ne = eqb-false n 0 (not-true (n == 0) h) in omega arith
+
+-- A hold of so many stores counts them.
+pub stores_by : (warp n : ℕ) → stores_of (hold_by warp n) ≡ n
+stores_by warp zero = refl
+stores_by warp (suc n) = refl
+
+-- A hold is the one of so many stores of its warp, however it was shown that there are some.
+pub hold_again : (hold : Option Hold) → hold ≡ hold_by (warp_or_first (owner_of hold)) (stores_of hold)
+hold_again None = refl
+hold_again (Some hold) = by hold.stores hold.some
+  where
+    by : (n : ℕ) (some : 0 < n) → Some (record { warp = hold.warp; stores = n; some = some }) ≡ hold_by hold.warp n
+    by zero some = absurd (omega arith)
+    by (suc n) some =
+        ap (λ p. Some (record { warp = hold.warp; stores = suc n; some = p })) (le_prop some (zero-lt-suc n))
+
+-- A line has an owner exactly while stores hold it.
+held_owner : (h : Option Hold) → 0 < stores_of h → owner_of h ≡ Some (warp_or_first (owner_of h))
+held_owner None some = absurd (omega arith)
+held_owner (Some hold) some = refl
+
+pub held_has_owner : (e : Entry) → not (stores_told e == 0) ≡ true → owner_told e ≡ Some (warp_or_first (owner_told e))
+held_has_owner e h = held_owner e.hold (held_counts (stores_told e) h)
+
+pub free_owner : (h : Option Hold) → stores_of h ≡ 0 → owner_of h ≡ None
+free_owner None none = refl
+free_owner (Some hold) none = absurd (let some = hold.some in omega arith)
+
+pub free_has_none : (e : Entry) → not (stores_told e == 0) ≡ false → owner_told e ≡ None
+free_has_none e h = free_owner e.hold (eqb-true (stores_told e) 0 (not-false (stores_told e == 0) h))
+
+-- One store more leaves the owner of some stores, and so that of a line that stores hold.
+owner_by : (n w : ℕ) → 0 < n → owner_of (hold_by w n) ≡ Some w
+owner_by zero w some = absurd (omega arith)
+owner_by (suc n) w some = refl
+
+pub same_owner_told : (n w : ℕ) → 0 < n → owner_of (hold_by w (n + 1)) ≡ owner_of (hold_by w n)
+same_owner_told n w some = owner_by (n + 1) w (omega arith) ∙ sym (owner_by n w some)
+
+pub same_owner_more : (e : Entry) → 0 < stores_told e → owner_told (entry_more e) ≡ owner_told e
+same_owner_more e held =
+    same_owner_told (stores_told e) (warp_or_first (owner_told e)) held ∙ ap owner_of (sym (hold_again e.hold))
 
 module _ (s : Exact) (good : exact.Good s) where
   keeps_tells : (line : ℕ) → line < line_limit → Tells exact s line
   keeps_tells line lt =
       let e : Entry = entry_at s line in
       record {
-        stamp_bound = good.1 line;
-        mark_bound = good.2 line;
-        owned = λ h. (e.warp, held_has_owner e h);
-        stamped = λ h. good.3 line (held_counts e.stores h);
+        stamp_bound = good.written line;
+        mark_bound = good.read line;
+        owned = λ h. (_, held_has_owner e h);
+        stamped = λ h. good.stamped line (held_counts (stores_told e) h);
         placed = λ _. lt-ltb line line_limit lt;
         ownerless = λ h. free_has_none e h;
         room = λ _. lt-ltb line line_limit lt;
@@ -48,18 +81,20 @@ module _ (s : Exact) (good : exact.Good s) where
   pub good_with :
       (line : ℕ) (e : Entry) (later : ℕ) → s.latest ≤ later → FitsBy later e
       → exact.Good (record { entries = slice_set s.entries line e; latest = later })
-  good_with line e later up fits = (
-    length-set s.entries line e ∙ good.0,
-    (λ n. set_any (λ x. x.stamps.write ≤ later) s.entries line n e untouched fits.0
-        (let h = good.1 n in omega arith)),
-    (λ n. set_any (λ x. x.stamps.read.0 ≤ later) s.entries line n e untouched fits.1
-        (let h = good.2 n in omega arith)),
-    (λ n. set_any (λ x. 0 < x.stores → 0 < x.stamps.write) s.entries line n e untouched fits.2 (good.3 n)),
-  )
+  good_with line e later up fits =
+      record {
+        whole = length-set s.entries line e ∙ good.whole;
+        written = λ n. set_any (λ x. x.stamps.write ≤ later) s.entries line n e untouched fits.0
+            (let h = good.written n in omega arith);
+        read = λ n. set_any (λ x. x.stamps.read.0 ≤ later) s.entries line n e untouched fits.1
+            (let h = good.read n in omega arith);
+        stamped = λ n. set_any (λ x. 0 < stores_told x → 0 < x.stamps.write) s.entries line n e untouched fits.2
+            (good.stamped n);
+      }
 
   module _ (line : ℕ) (lt : line < line_limit) (e : Entry) (stamp : ℕ) where
     room : line < length s.entries
-    room = subst (λ n. line < n) (sym good.0) lt
+    room = subst (λ n. line < n) (sym good.whole) lt
 
     pub told_here : entry_at (with_entry s line e stamp) line ≡ e
     told_here = get_or-set_same s.entries line e untouched room
@@ -84,20 +119,20 @@ module _ (s : Exact) (good : exact.Good s) where
     pub stays_with : (n : ℕ) → (n ≢ line) → Stays exact s (with_entry s line e stamp) n
     stays_with n ne =
         record {
-          same_stores = ap (λ x. x.stores) (told_apart n ne);
+          same_stores = ap stores_told (told_apart n ne);
           same_owner = ap owner_told (told_apart n ne);
         }
 
     -- Where the entry has the same stores and owner, no reservation changes.
     pub stays_all :
-        e.stores ≡ (entry_at s line).stores → owner_told e ≡ owner_told (entry_at s line)
+        stores_told e ≡ stores_told (entry_at s line) → owner_told e ≡ owner_told (entry_at s line)
         → (n : ℕ) → Stays exact s (with_entry s line e stamp) n
     stays_all counts owners n =
         ⊎_elim
         (λ same.
         subst (λ k. Stays exact s (with_entry s line e stamp) k) (sym same)
         (record {
-          same_stores = ap (λ x. x.stores) told_here ∙ counts;
+          same_stores = ap stores_told told_here ∙ counts;
           same_owner =
               ap owner_told told_here ∙ owners;
         }))
@@ -114,9 +149,9 @@ module _ (s : Exact) (good : exact.Good s) where
     keeps_note t =
         let e : Entry = entry_read told t in
         let up : NoEarlier told.stamps e.stamps = raised_first told.stamps (read_at t) in
-        let w = good.1 line in
-        let r = good.2 line in
-        let h = good.3 line in (
+        let w = good.written line in
+        let r = good.read line in
+        let h = good.stamped line in (
           good_with line e (max s.latest t.0) (omega arith) (
             omega arith,
             later_bound told.stamps.read t _ (omega arith) (omega arith),
@@ -138,13 +173,16 @@ module _ (s : Exact) (good : exact.Good s) where
         let e : Entry = entry_held told t in
         let up : NoEarlier told.stamps e.stamps = raised_first told.stamps (written_at (t.0 + 1)) in
         let here : entry_at (exact.reserve s line t) line ≡ e = told_here line lt e (t.0 + 1) in
-        let w = good.1 line in
-        let r = good.2 line in (
-          good_with line e (max s.latest (t.0 + 1)) (omega arith)
-              (omega arith, later_bound told.stamps.read (0, 0) _ (omega arith) (omega arith), (λ _. omega arith)),
+        let w = good.written line in
+        let r = good.read line in (
+          good_with line e (max s.latest (t.0 + 1)) (omega arith) (
+            omega arith,
+            later_bound told.stamps.read (0, 0) _ (omega arith) (omega arith),
+            (λ _. omega arith),
+          ),
           record {
             grows = grows_with line lt e (t.0 + 1) up;
-            one_store = ap (λ x. x.stores) here;
+            one_store = ap stores_told here;
             its_owner = ap owner_told here;
             passes = subst (λ x. t.0 < x.stamps.write) (sym here) (omega arith);
             stays = λ n _ ne. stays_with line lt e (t.0 + 1) n ne;
@@ -153,19 +191,23 @@ module _ (s : Exact) (good : exact.Good s) where
         )
 
     keeps_add :
-        0 < (entry_at s line).stores → exact.Good (exact.add s line) × Adds exact s (exact.add s line) line
+        0 < stores_told (entry_at s line) → exact.Good (exact.add s line) × Adds exact s (exact.add s line) line
     unfolding told
     keeps_add held =
         let e : Entry = entry_more told in
         let here : entry_at (exact.add s line) line ≡ e = told_here line lt e 0 in
-        let w = good.1 line in
-        let r = good.2 line in
-        let h = good.3 line held in (
-          good_with line e (max s.latest 0) (omega arith) (omega arith, omega arith, (λ _. h)),
+        let w = good.written line in
+        let r = good.read line in
+        let h = good.stamped line held in (
+          good_with line e (max s.latest 0) (omega arith) (
+            omega arith,
+            omega arith,
+            (λ _. h),
+          ),
           record {
             grows = grows_with line lt e 0 (stamps_same told.stamps);
-            one_more = ap (λ x. x.stores) here;
-            same_owner = ap owner_told here ∙ same_owner_told told.stores told.warp held;
+            one_more = ap stores_told here ∙ stores_by (warp_or_first (owner_told told)) (stores_told told + 1);
+            same_owner = ap owner_told here ∙ same_owner_more told held;
             stays = λ n _ ne. stays_with line lt e 0 n ne;
             latest_bound = omega arith;
           },
@@ -175,12 +217,13 @@ module _ (s : Exact) (good : exact.Good s) where
     unfolding told
     keeps_release =
         let e : Entry = entry_freed told in
-        let w = good.1 line in
-        let r = good.2 line in (
-          good_with line e (max s.latest 0) (omega arith) (omega arith, omega arith, (λ c. absurd (omega arith))),
+        let w = good.written line in
+        let r = good.read line in (
+          good_with line e (max s.latest 0) (omega arith)
+              (omega arith, omega arith, (λ c. absurd (omega arith))),
           record {
             grows = grows_with line lt e 0 (stamps_same told.stamps);
-            no_stores = ap (λ x. x.stores) (told_here line lt e 0);
+            no_stores = ap stores_told (told_here line lt e 0);
             stays = λ n _ ne. stays_with line lt e 0 n ne;
             latest_bound = omega arith;
           },
@@ -199,7 +242,7 @@ exact_keeps =
       reserves = λ s good line t can. keeps_reserve s good line (numbered line _ (and_parts _ _ can).0) t;
       adds = λ s good line can.
           keeps_add s good line (numbered line _ can)
-          (held_counts (entry_at s line).stores (and_parts _ _ (and_parts _ _ can).1).0);
+          (held_counts (stores_told (entry_at s line)) (and_parts _ _ (and_parts _ _ can).1).0);
       releases = λ s good line can. keeps_release s good line (ltb-true line line_limit can);
     }
 
@@ -214,12 +257,13 @@ module _ (n : ℕ) where
   new_entry = same_anywhere 4096 n untouched
 
 pub good_new : exact.Good exact_new
-good_new = (
-  refl,
-  (λ n. rw (new_entry n) (omega arith)),
-  (λ n. rw (new_entry n) (omega arith)),
-  (λ n h. absurd (let z = rw (new_entry n) at h in omega arith)),
-)
+good_new =
+    record {
+      whole = refl;
+      written = λ n. rw (new_entry n) (omega arith);
+      read = λ n. rw (new_entry n) (omega arith);
+      stamped = λ n h. absurd (let z = rw (new_entry n) at h in omega arith);
+    }
 
 pub new_exact : New exact exact_new
 new_exact =
@@ -227,7 +271,7 @@ new_exact =
       no_latest = refl;
       no_stamp = λ n _. ap (λ x. x.stamps.write) (new_entry n);
       no_mark = λ n _. ap (λ x. x.stamps.read) (new_entry n);
-      no_store = λ n _. ap (λ x. x.stores) (new_entry n);
+      no_store = λ n _. ap stores_told (new_entry n);
       no_owner = λ n _. ap owner_told (new_entry n);
       free_slot = λ n lt. lt-ltb n line_limit lt;
     }

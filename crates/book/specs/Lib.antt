@@ -8,3 +8,4 @@ pub mod Earliest
 pub mod ExactKeeps
 pub mod Order
 pub mod Tables
+pub mod Printed

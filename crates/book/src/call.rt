@@ -1,12 +1,14 @@
 //! The calls of a book as values, and how two books get the same ones.
-ghost use Rattle.std.specs.Prelude.{◌≡◌};
+ghost use Rattle.std.specs.Prelude.{◌≡◌, Some};
 ghost use Rattle.book.specs.Grants.{granted};
 ghost use Rattle.book.specs.Earliest.{grants, next, next_both, Earliest};
 ghost use Rattle.book.specs.Pages.{exact_page};
+ghost use Rattle.book.specs.Printed.{line_called, call_text};
 
 use crate::exact::ExactBook;
 use crate::record::Book;
 use crate::refused::Refused;
+use std::fmt;
 
 /// A call that changes a book. A time is a pair of stamp and warp.
 #[derive(Clone, Copy, PartialEq, Eq, Debug)]
@@ -15,6 +17,33 @@ pub enum BookCall {
     Reserve { line: u32, time: (u32, u32) },
     Add { line: u32 },
     Release { line: u32 },
+}
+
+impl BookCall {
+    /// The line that the call is about.
+    pub fn line(self) -> u32
+        ensures { result ≡ line_called self }
+    {
+        match self {
+            BookCall::Note { line, .. }
+            | BookCall::Reserve { line, .. }
+            | BookCall::Add { line }
+            | BookCall::Release { line } => line,
+        }
+    }
+}
+
+impl fmt::Display for BookCall {
+    ghost output = { λ call. Some (call_text call) };
+
+    fn fmt<W: fmt::Write>(&self, f: &mut fmt::Formatter<W>) -> fmt::Result {
+        match *self {
+            BookCall::Note { line, time } => write!(f, "note {line} at {time:?}"),
+            BookCall::Reserve { line, time } => write!(f, "reserve {line} at {time:?}"),
+            BookCall::Add { line } => write!(f, "add {line}"),
+            BookCall::Release { line } => write!(f, "release {line}"),
+        }
+    }
 }
 
 /// Makes a call of a book.
@@ -43,11 +72,7 @@ pub fn make_both<B: Book>(
         ≡ next_both B.Book.kind (B.Book.model book.old, exact_page exact.old) call }
     ensures earliest { Earliest B.Book.kind }
 {
-    match make(book, call) {
-        Ok(()) => {
-            let _ = make(exact, call);
-            Ok(())
-        }
-        Err(refused) => Err(refused),
-    }
+    make(book, call)?;
+    let _ = make(exact, call);
+    Ok(())
 }

@@ -1,7 +1,6 @@
 //! What a book keeps of a line.
-ghost use Rattle.std.specs.Prelude.{◌≡◌};
+ghost use Rattle.std.specs.Prelude.{◌≡◌, ◌<◌};
 ghost use Rattle.book.specs.Time.{earlier};
-ghost use Rattle.book.specs.Entries.{raised, least, entry_read, held_by, with_stores, owner_told};
 ghost use Rattle.book.specs.Meaning.{sound_time};
 
 use protocol::limits::{LAST_STAMP, WARPS};
@@ -15,20 +14,26 @@ pub struct Stamps {
     pub read: (u32, u32),
 }
 
-/// What a book keeps of a line: its stamps, how many stores hold it, and the warp that made them. Without a store the
-/// warp means nothing.
+/// The stores that hold a line reserved: how many, and the warp that made them. Only an entry makes one.
+#[derive(Clone, Copy, PartialEq, Eq, Debug)]
+pub struct Hold {
+    warp: u32,
+    stores: u32,
+    ghost some: { 0 < stores },
+}
+
+/// What a book keeps of a line: its stamps, and the stores that hold it.
 #[derive(Clone, Copy, PartialEq, Eq, Debug)]
 pub struct Entry {
     pub stamps: Stamps,
-    pub stores: u32,
-    pub warp: u32,
+    pub hold: Option<Hold>,
 }
 
 /// Whether a time comes before another: by stamp, then by warp.
 pub fn comes_before(a: (u32, u32), b: (u32, u32)) -> bool
     ensures { result ≡ earlier a b }
 {
-    a.0 < b.0 || a.0 == b.0 && a.1 < b.1
+    a < b
 }
 
 /// Whether a call may name the time: no stamp past the end of the clock, no warp past the last.
@@ -39,6 +44,8 @@ pub fn can_be(time: (u32, u32)) -> bool
 }
 
 impl Stamps {
+    ghost use Rattle.book.specs.Entries.{raised, least};
+
     /// No stamp at all.
     pub const NONE: Stamps = Stamps {
         write: 0,
@@ -49,50 +56,60 @@ impl Stamps {
     pub fn raised(self, other: Stamps) -> Stamps
         ensures { result ≡ raised self other }
     {
-        let read = if comes_before(self.read, other.read) {
-            other.read
-        } else {
-            self.read
-        };
         Stamps {
             write: self.write.max(other.write),
-            read,
+            read: self.read.max(other.read),
         }
     }
 
+    // The twin of `raised`, but for which is taken: a rule of choice as a parameter would have to choose among numbers
+    // and among pairs, so two of them would be passed.
     /// The earlier of each.
     pub fn least(self, other: Stamps) -> Stamps
         ensures { result ≡ least self other }
     {
-        let read = if comes_before(other.read, self.read) {
-            other.read
-        } else {
-            self.read
-        };
         Stamps {
             write: self.write.min(other.write),
-            read,
+            read: self.read.min(other.read),
+        }
+    }
+}
+
+impl Hold {
+    ghost use Rattle.book.specs.Entries.{hold_by};
+
+    /// So many stores of a warp; no hold where there are none.
+    fn of(warp: u32, stores: u32) -> Option<Hold>
+        ensures { result ≡ hold_by warp stores }
+    {
+        match stores {
+            0 => None,
+            _ => Some(Hold { warp, stores }),
         }
     }
 }
 
 impl Entry {
+    ghost use Rattle.book.specs.Entries.{entry_read, held_by, with_stores, owner_told, stores_told};
+
     /// A line that no call named yet.
     pub const UNTOUCHED: Entry = Entry {
         stamps: Stamps::NONE,
-        stores: 0,
-        warp: 0,
+        hold: None,
     };
+
+    /// How many stores hold the line.
+    pub fn stores(self) -> u32
+        ensures { result ≡ stores_told self }
+    {
+        self.hold.map_or(0, |hold| hold.stores)
+    }
 
     /// The warp whose stores hold the line.
     pub fn owner(self) -> Option<u32>
         ensures { result ≡ owner_told self }
     {
-        if self.stores == 0 {
-            None
-        } else {
-            Some(self.warp)
-        }
+        self.hold.map(|hold| hold.warp)
     }
 
     /// The line after a read.
@@ -100,13 +117,12 @@ impl Entry {
         ensures { result ≡ entry_read self time }
     {
         let read = Stamps {
-            write: 0,
             read: time,
+            ..Stamps::NONE
         };
         Entry {
             stamps: self.stamps.raised(read),
-            stores: self.stores,
-            warp: self.warp,
+            ..self
         }
     }
 
@@ -116,23 +132,22 @@ impl Entry {
     {
         let written = Stamps {
             write: stamp,
-            read: (0, 0),
+            ..Stamps::NONE
         };
         Entry {
             stamps: self.stamps.raised(written),
-            stores: 1,
-            warp,
+            hold: Hold::of(warp, 1),
         }
     }
 
-    /// The line with so many stores.
+    /// The line with so many stores, of the warp that holds it or else of warp 0.
     pub fn with_stores(self, stores: u32) -> Entry
         ensures { result ≡ with_stores self stores }
     {
+        let warp = self.owner().unwrap_or(0);
         Entry {
-            stamps: self.stamps,
-            stores,
-            warp: self.warp,
+            hold: Hold::of(warp, stores),
+            ..self
         }
     }
 }

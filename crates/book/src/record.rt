@@ -7,7 +7,7 @@ ghost use Rattle.book.specs.Meaning.{noted, taken, added, released};
 use crate::refused::Refused;
 
 /// What the book tells of a line. A time is a pair of stamp and warp.
-#[derive(Clone, Copy)]
+#[derive(Clone, Copy, PartialEq, Eq, Debug)]
 pub struct Told {
     pub written: u32,
     pub read: (u32, u32),

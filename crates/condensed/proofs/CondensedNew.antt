@@ -3,7 +3,7 @@ use Rattle.std.proofs.Common.{◌≡◌, ℕ, ◌+◌, ◌<◌, true, ltb, List,
 use Rattle.std.proofs.lemmas.Bool.{and_from, lt-ltb}
 use Rattle.protocol.specs.Limits.{line_limit}
 use Rattle.book.specs.Meaning.{New}
-use Rattle.book.specs.Entries.{untouched, no_stamps, free_with, least, owner_told}
+use Rattle.book.specs.Entries.{untouched, no_stamps, free_with, least, stores_told, owner_told}
 use Rattle.book.specs.declared.entry.Stamps.{Stamps}
 use Rattle.book.specs.ExactKeeps.{same_anywhere}
 use Rattle.condensed.specs.Filter.{indices_of, filter_told, stamps_at}
@@ -45,7 +45,7 @@ new_condensed =
       no_latest = refl;
       no_stamp = λ n lt. ap (λ x. x.stamps.write) (tells_nothing n lt);
       no_mark = λ n lt. ap (λ x. x.stamps.read) (tells_nothing n lt);
-      no_store = λ n lt. ap (λ x. x.stores) (tells_nothing n lt);
+      no_store = λ n lt. ap stores_told (tells_nothing n lt);
       no_owner = λ n lt. ap owner_told (tells_nothing n lt);
       free_slot = λ n lt. and_from (ltb n line_limit) _ (lt-ltb n line_limit lt)
           (some_slot n lt (slot_of (replicate 16 empty) n));

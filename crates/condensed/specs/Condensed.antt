@@ -1,15 +1,16 @@
 -- The condensed book: sixteen slots, a filter for all other lines, and the latest stamp.
-use Rattle.std.specs.Prelude.{◌≡◌, ℕ, suc, ◌+◌, ◌<◌, ◌≤◌, max, Bool, true, false, cond, ◌&&◌, List, [], ◌∷◌, map, length, get_or, replicate, is_some, Some, None, Option, ◌==◌, nat_lt, slice_index_or, slice_set}
-use Rattle.std.specs.Option.{option_map}
+use Rattle.std.specs.Prelude.{◌≡◌, ℕ, ◌+◌, ◌<◌, ◌≤◌, max, Bool, true, false, cond, ◌&&◌, List, map, length, get_or, replicate, is_some, Some, None, Option, ◌==◌, nat_lt, slice_index_or, slice_set}
+use Rattle.std.specs.List.{position}
 use Rattle.protocol.specs.Limits.{line_limit}
 use Rattle.choice.specs.Rule.{chosen}
 use Rattle.book.specs.Time.{Time}
 use Rattle.book.specs.Meaning.{Kind}
 use Rattle.book.specs.Entries.{untouched, no_stamps, free_with, read_at, entry_read, entry_held, entry_more}
-use Rattle.book.specs.Entries.{entry_freed, owner_told}
+use Rattle.book.specs.Entries.{entry_freed, stores_told, owner_told}
 use Rattle.condensed.specs.Filter.{indices_of, filter_told, filter_raised, stamps_at}
 use Rattle.book.specs.declared.entry.Entry.{Entry}
 use Rattle.book.specs.declared.entry.Stamps.{Stamps}
+use Rattle.condensed.specs.declared.slot.Occupant.{Occupant}
 use Rattle.condensed.specs.declared.slot.Slot.{Slot}
 
 -- What the book has: its slots, the filter's entries, one way after another, and the latest stamp.
@@ -18,9 +19,16 @@ pub record Condensed : Type 0 where
   pub filter : List Stamps
   pub latest : ℕ
 
+abbrev pub page_of : List Slot → List Stamps → ℕ → Condensed
+page_of slots filter latest = record { slots = slots; filter = filter; latest = latest }
+
 -- A slot that holds no line.
 abbrev pub empty : Slot
-empty = record { line = None; entry = untouched }
+empty = record { occupant = None }
+
+-- A slot that holds a line, and what is told of it there.
+abbrev pub holding : ℕ → Entry → Slot
+holding line e = record { occupant = Some (record { line = line; entry = e }) }
 
 -- Whether a slot's line, if it has one, is a given line, or that of another slot.
 abbrev pub is_line : Option ℕ → ℕ → Bool
@@ -31,22 +39,36 @@ abbrev pub same_line : Option ℕ → Option ℕ → Bool
 same_line None other = false
 same_line (Some line) other = is_line other line
 
+-- The line in a slot, and what is told of it; in a slot that holds no line, as of one that no call named yet.
+abbrev pub line_of : Option Occupant → Option ℕ
+line_of None = None
+line_of (Some there) = Some there.line
+
+abbrev pub entry_of : Option Occupant → Entry
+entry_of None = untouched
+entry_of (Some there) = there.entry
+
+abbrev pub line_in : Slot → Option ℕ
+line_in slot = line_of slot.occupant
+
+abbrev pub entry_in : Slot → Entry
+entry_in slot = entry_of slot.occupant
+
 abbrev pub holds : Slot → ℕ → Bool
-holds slot line = is_line slot.line line
+holds slot line = is_line (line_in slot) line
 
 -- The slot that a line is in, if it is in one.
 unfoldable pub slot_of : List Slot → ℕ → Option ℕ
-slot_of [] line = None
-slot_of (slot ∷ slots) line = cond (holds slot line) (Some 0) (option_map suc (slot_of slots line))
+slot_of slots line = position (λ slot. holds slot line) slots
 
 -- A slot's key, for the choice of a slot to take: its write stamp, or 0 where it is empty. A reserved slot is not
 -- allowed.
-abbrev pub key_of : Option ℕ → Entry → Option ℕ
-key_of None e = Some 0
-key_of (Some line) e = cond (e.stores == 0) (Some e.stamps.write) None
+abbrev pub key_of : Option Occupant → Option ℕ
+key_of None = Some 0
+key_of (Some there) = cond (stores_told there.entry == 0) (Some there.entry.stamps.write) None
 
 abbrev pub slot_key : Slot → Option ℕ
-slot_key slot = key_of slot.line slot.entry
+slot_key slot = key_of slot.occupant
 
 -- Where a line goes that is to be reserved: the slot that it is in, or else the one that is chosen.
 abbrev pub or_else : Option ℕ → Option ℕ → Option ℕ
@@ -63,10 +85,11 @@ place_for slots line = or_else (slot_of slots line) (chosen (map slot_key slots)
 -- no call named yet.
 abbrev pub told_from : List Slot → List Stamps → ℕ → Option ℕ → Entry
 told_from slots filter line None = free_with (filter_told filter (indices_of line))
-told_from slots filter line (Some place) = (get_or slots place empty).entry
+told_from slots filter line (Some place) = (entry_in (get_or slots place empty))
 
 abbrev pub told_entry : List Slot → List Stamps → ℕ → Entry
-told_entry slots filter line = cond (nat_lt line line_limit) (told_from slots filter line (slot_of slots line)) untouched
+told_entry slots filter line =
+    cond (nat_lt line line_limit) (told_from slots filter line (slot_of slots line)) untouched
 
 -- A slot is left to a line: another line that was in it raises its entries of the filter to its stamps.
 abbrev pub raised_for : List Stamps → Stamps → ℕ → Option ℕ → List Stamps
@@ -74,7 +97,7 @@ raised_for filter stamps line None = filter
 raised_for filter stamps line (Some out) = cond (out == line) filter (filter_raised filter (indices_of out) stamps)
 
 abbrev pub turned_out : List Stamps → Slot → ℕ → List Stamps
-turned_out filter slot line = raised_for filter slot.entry.stamps line slot.line
+turned_out filter slot line = raised_for filter (entry_in slot).stamps line (line_in slot)
 
 module _ (s : Condensed) where
   -- What is told of a line.
@@ -92,7 +115,7 @@ module _ (s : Condensed) where
 
   -- A line and its entry are written into a slot, and the latest stamp is raised where it is earlier.
   abbrev pub in_slot : ℕ → ℕ → Entry → List Slot
-  in_slot line place e = slice_set s.slots place (record { line = Some line; entry = e })
+  in_slot line place e = slice_set s.slots place (holding line e)
 
   abbrev pub with_slot : ℕ → ℕ → Entry → ℕ → Condensed
   with_slot line place e stamp =
@@ -111,7 +134,7 @@ module _ (s : Condensed) (line : ℕ) where
         filter = filter_raised s.filter (indices_of line) (read_at t);
         latest = max s.latest t.0;
       }
-  note_in t (Some place) = with_slot s line place (entry_read (get_or s.slots place empty).entry t) t.0
+  note_in t (Some place) = with_slot s line place (entry_read (entry_in (get_or s.slots place empty)) t) t.0
 
   -- A reserved line starts in its slot from what was told of it before the call.
   abbrev pub reserve_in : Time → Option ℕ → Condensed
@@ -121,7 +144,7 @@ module _ (s : Condensed) (line : ℕ) where
   -- Other calls change the entry of the line in its slot, and nothing else.
   abbrev pub change_in : (Entry → Entry) → Option ℕ → Condensed
   change_in change None = s
-  change_in change (Some place) = with_slot s line place (change (get_or s.slots place empty).entry) 0
+  change_in change (Some place) = with_slot s line place (change (entry_in (get_or s.slots place empty))) 0
 
 -- Neither stamp is past another.
 abbrev pub Bounded : Stamps → ℕ → Type 0
@@ -136,17 +159,17 @@ FourWays filter = length filter ≡ 256
 
 -- no line in two slots, and only lines that have a number;
 abbrev pub Apart : List Slot → Type 0
-Apart slots = (i j : ℕ) → same_line (get_or slots i empty).line (get_or slots j empty).line ≡ true → i ≡ j
+Apart slots = (i j : ℕ) → same_line (line_in (get_or slots i empty)) (line_in (get_or slots j empty)) ≡ true → i ≡ j
 
 abbrev pub Numbered : List Slot → Type 0
 Numbered slots = (i n : ℕ) → holds (slice_index_or slots i empty) n ≡ true → n < line_limit
 
 -- nothing in a slot or in the filter later than the latest stamp;
 abbrev pub SlotsWritten : List Slot → ℕ → Type 0
-SlotsWritten slots latest = (i : ℕ) → (get_or slots i empty).entry.stamps.write ≤ latest
+SlotsWritten slots latest = (i : ℕ) → (entry_in (get_or slots i empty)).stamps.write ≤ latest
 
 abbrev pub SlotsRead : List Slot → ℕ → Type 0
-SlotsRead slots latest = (i : ℕ) → (get_or slots i empty).entry.stamps.read.0 ≤ latest
+SlotsRead slots latest = (i : ℕ) → (entry_in (get_or slots i empty)).stamps.read.0 ≤ latest
 
 abbrev pub FilterWritten : List Stamps → ℕ → Type 0
 FilterWritten filter latest = (i : ℕ) → (stamps_at filter i).write ≤ latest
@@ -154,9 +177,10 @@ FilterWritten filter latest = (i : ℕ) → (stamps_at filter i).write ≤ lates
 abbrev pub FilterRead : List Stamps → ℕ → Type 0
 FilterRead filter latest = (i : ℕ) → (stamps_at filter i).read.0 ≤ latest
 
--- and a write stamp in every slot that stores hold.
+-- a write stamp in every slot that stores hold.
 abbrev pub SlotsStamped : List Slot → Type 0
-SlotsStamped slots = (i : ℕ) → 0 < (get_or slots i empty).entry.stores → 0 < (get_or slots i empty).entry.stamps.write
+SlotsStamped slots =
+    (i : ℕ) → 0 < stores_told (entry_in (get_or slots i empty)) → 0 < (entry_in (get_or slots i empty)).stamps.write
 
 -- All of it together.
 pub record Sound (s : Condensed) : Type 0 where
@@ -179,7 +203,7 @@ condensed =
       slots = 16;
       write_stamp = λ s line. (told s line).stamps.write;
       read_mark = λ s line. (told s line).stamps.read;
-      stores = λ s line. (told s line).stores;
+      stores = λ s line. stores_told (told s line);
       owner = λ s line. owner_told (told s line);
       has_slot = λ s line. nat_lt line line_limit && is_some (place_for s.slots line);
       latest = λ s. s.latest;

@@ -2,13 +2,15 @@
 use Rattle.std.specs.Prelude.{◌≡◌, ℕ, ◌<◌, ◌≤◌, true, false, List, length, get_or, Some, None, Option, ◌==◌, ◌≢◌, slice_index_or, slice_set}
 use Rattle.std.proofs.Common.{⊎_elim, ◌∙◌, arith, length-set, get_or-set_same, get_or-set_other}
 use Rattle.std.proofs.Math.Path.{refl, sym, ap, subst}
-use Rattle.std.proofs.lemmas.Bool.{cases_eq, cond-true, cond-false, cond_both, eqb-true, ne_eqb, eq-eqb, both_ways}
+use Rattle.std.proofs.lemmas.Bool.{false_from_ne_true, cases_eq, cond-false, cond_both, eqb-true, ne_eqb, eq-eqb}
+use Rattle.std.proofs.lemmas.Bool.{both_ways}
 use Rattle.protocol.specs.Limits.{line_limit}
-use Rattle.book.specs.Entries.{free_with, owner_told}
+use Rattle.book.specs.Entries.{free_with, stores_told, owner_told}
+use Rattle.book.specs.ExactKeeps.{free_owner}
 use Rattle.book.specs.Exact.{FitsBy}
 use Rattle.condensed.specs.Filter.{indices_of, stamps_at, filter_told, filter_raised}
 use Rattle.condensed.specs.Condensed.{Condensed, Sound, empty, is_line, same_line, holds, slot_of, told_from, told}
-use Rattle.condensed.specs.Condensed.{in_slot, turned_out, raised_for, Apart, Numbered}
+use Rattle.condensed.specs.Condensed.{holding, line_in, entry_in, in_slot, turned_out, raised_for, Apart, Numbered}
 use Rattle.book.specs.declared.entry.Entry.{Entry}
 use Rattle.book.specs.declared.entry.Stamps.{Stamps}
 use Rattle.condensed.specs.declared.slot.Slot.{Slot}
@@ -17,20 +19,20 @@ use Rattle.book.specs.Tables.{set_any, set_cases}
 use Rattle.condensed.specs.Indices.{indices_inside}
 use Rattle.condensed.specs.Sieve.{Grown, raised_grows, raised_each, raised_length, raised_reaches, told_grows}
 use Rattle.condensed.specs.Slots.{Spot, spot, found_in, none_found, line_is, same_from, same_back, slot_same}
-use Rattle.condensed.specs.Slots.{line_same, untrue}
+use Rattle.condensed.specs.Slots.{line_same}
 use Rattle.condensed.specs.CondensedTells.{told_inside}
 
 -- A line is told no earlier than before, with the same stores and owner.
 pub record Kept (a b : Entry) : Type 0 where
   pub up : NoEarlier a.stamps b.stamps
-  pub same_stores : b.stores ≡ a.stores
+  pub same_stores : stores_told b ≡ stores_told a
   pub same_owner : owner_told b ≡ owner_told a
 
 pub kept_same : (a b : Entry) → b ≡ a → Kept a b
 kept_same a b e =
     record {
       up = subst (λ x. NoEarlier a.stamps x.stamps) (sym e) (stamps_same a.stamps);
-      same_stores = ap (λ x. x.stores) e;
+      same_stores = ap stores_told e;
       same_owner = ap owner_told e;
     }
 
@@ -38,12 +40,12 @@ pub kept_free : (a b : Stamps) → NoEarlier a b → Kept (free_with a) (free_wi
 kept_free a b up = record { up = up; same_stores = refl; same_owner = refl }
 
 -- An entry that no store holds is turned out, and its line told by stamps no earlier.
-kept_out : (a : Entry) (b : Stamps) → a.stores ≡ 0 → NoEarlier a.stamps b → Kept a (free_with b)
+kept_out : (a : Entry) (b : Stamps) → stores_told a ≡ 0 → NoEarlier a.stamps b → Kept a (free_with b)
 kept_out a b none up =
     record {
       up = up;
       same_stores = sym none;
-      same_owner = sym (cond-true (a.stores == 0) None (Some a.warp) (eq-eqb a.stores 0 none));
+      same_owner = sym (free_owner a.hold none);
     }
 
 -- The stamps of every entry of a filter are within a stamp.
@@ -77,7 +79,7 @@ within_later filter latest later w up =
 abbrev pub moved_to : Condensed → ℕ → ℕ → Entry → ℕ → Condensed
 moved_to s line i e later =
     record {
-      slots = slice_set s.slots i (record { line = Some line; entry = e });
+      slots = slice_set s.slots i (holding line e);
       filter = turned_out s.filter (slice_index_or s.slots i empty) line;
       latest = later;
     }
@@ -88,7 +90,7 @@ module _ (s : Condensed) (sound : Sound s) where
 
   -- A slot may be set whose entry fits.
   pub sound_with :
-      (i : ℕ) (x : Slot) (filter : List Stamps) (later : ℕ) → s.latest ≤ later → FitsBy later x.entry
+      (i : ℕ) (x : Slot) (filter : List Stamps) (later : ℕ) → s.latest ≤ later → FitsBy later (entry_in x)
       → Apart (slice_set s.slots i x) → Numbered (slice_set s.slots i x) → Within filter later
       → Sound (record { slots = slice_set s.slots i x; filter = filter; latest = later })
   sound_with i x filter later up fits apart numbered w =
@@ -97,14 +99,14 @@ module _ (s : Condensed) (sound : Sound s) where
         four_ways = w.size;
         apart = apart;
         numbered = numbered;
-        slots_written = λ k. set_any (λ y. y.entry.stamps.write ≤ later) s.slots i k x empty fits.0
+        slots_written = λ k. set_any (λ y. (entry_in y).stamps.write ≤ later) s.slots i k x empty fits.0
             (let h = sound.slots_written k in omega arith);
-        slots_read = λ k. set_any (λ y. y.entry.stamps.read.0 ≤ later) s.slots i k x empty fits.1
+        slots_read = λ k. set_any (λ y. (entry_in y).stamps.read.0 ≤ later) s.slots i k x empty fits.1
             (let h = sound.slots_read k in omega arith);
         filter_written = w.written;
         filter_read = w.read;
         slots_stamped = λ k.
-            set_any (λ y. 0 < y.entry.stores → 0 < y.entry.stamps.write) s.slots i k x empty fits.2
+            set_any (λ y. 0 < stores_told (entry_in y) → 0 < (entry_in y).stamps.write) s.slots i k x empty fits.2
             (sound.slots_stamped k);
       }
 
@@ -133,7 +135,7 @@ module _ (s : Condensed) (sound : Sound s) where
         → Kept (told_from s.slots s.filter n o) (told_from s.slots filter n o)
     from_kept n None up = kept_free (filter_told s.filter (indices_of n)) (filter_told filter (indices_of n))
         (told_grows s.filter filter (indices_of n) up)
-    from_kept n (Some i) up = kept_same (get_or s.slots i empty).entry (get_or s.slots i empty).entry refl
+    from_kept n (Some i) up = kept_same (entry_in (get_or s.slots i empty)) (entry_in (get_or s.slots i empty)) refl
 
     pub sifted_kept :
         Grown s.filter filter → (n : ℕ) → n < line_limit
@@ -147,13 +149,13 @@ module _ (s : Condensed) (sound : Sound s) where
   -- The entry of a line in its slot is set.
   module _ (line i : ℕ) (lt : line < line_limit) (here : slot_of s.slots line ≡ Some i) (e : Entry) (later : ℕ) where
     x : Slot
-    x = record { line = Some line; entry = e }
+    x = holding line e
 
     at_line : Spot s.slots line (Some i)
     at_line = subst (Spot s.slots line) here (spot s.slots line)
 
-    its_line : Some line ≡ (get_or s.slots i empty).line
-    its_line = sym (line_is (get_or s.slots i empty).line line at_line.1)
+    its_line : Some line ≡ (line_in (get_or s.slots i empty))
+    its_line = sym (line_is (line_in (get_or s.slots i empty)) line at_line.1)
 
     changed : Condensed
     changed = record { slots = in_slot s line i e; filter = s.filter; latest = later }
@@ -163,20 +165,20 @@ module _ (s : Condensed) (sound : Sound s) where
     changed_here =
         told_inside changed line lt
         ∙ ap (told_from (in_slot s line i e) s.filter line) (slot_same s.slots i x its_line line ∙ here)
-        ∙ ap (λ y. y.entry) (get_or-set_same s.slots i x empty at_line.0)
+        ∙ ap entry_in (get_or-set_same s.slots i x empty at_line.0)
 
     apart_from : (n : ℕ) (o : Option ℕ) → (n ≢ line) → Spot s.slots n o
         → told_from (in_slot s line i e) s.filter n o ≡ told_from s.slots s.filter n o
     unfolding x
     apart_from n None ne sp = refl
     apart_from n (Some j) ne sp =
-        ap (λ y. y.entry) (get_or-set_other s.slots i j x empty (λ same. ne (one_line j same sp.1)))
+        ap entry_in (get_or-set_other s.slots i j x empty (λ same. ne (one_line j same sp.1)))
       where
         one_line : (k : ℕ) → k ≡ i → holds (slice_index_or s.slots k empty) n ≡ true → n ≡ line
         one_line k same h =
-            let a = line_is (get_or s.slots k empty).line n h in
-            let b = line_is (get_or s.slots i empty).line line at_line.1 in
-            let c = ap (λ m. (get_or s.slots m empty).line) same in
+            let a = line_is (line_in (get_or s.slots k empty)) n h in
+            let b = line_is (line_in (get_or s.slots i empty)) line at_line.1 in
+            let c = ap (λ m. (line_in (get_or s.slots m empty))) same in
             cc
 
     pub changed_apart :
@@ -195,8 +197,8 @@ module _ (s : Condensed) (sound : Sound s) where
     sound_changed up fits =
         sound_with i x s.filter later up fits
         (λ a b h. sound.apart a b
-        (subst (λ l. same_line l (get_or s.slots b empty).line ≡ true) (line_same s.slots i x its_line a)
-        (subst (λ l. same_line (get_or (slice_set s.slots i x) a empty).line l ≡ true)
+        (subst (λ l. same_line l (line_in (get_or s.slots b empty)) ≡ true) (line_same s.slots i x its_line a)
+        (subst (λ l. same_line (line_in (get_or (slice_set s.slots i x) a empty)) l ≡ true)
         (line_same s.slots i x its_line b) h)))
         (λ a n h. sound.numbered a n (subst (λ l. is_line l n ≡ true) (line_same s.slots i x its_line a) h))
         (within_later s.filter s.latest later within_now up)
@@ -221,7 +223,7 @@ module _ (s : Condensed) (sound : Sound s) where
   module _ (line i : ℕ) (lt : line < line_limit) (nowhere : slot_of s.slots line ≡ None)
       (room : i < length s.slots) (e : Entry) where
     abbrev new : Slot
-    new = record { line = Some line; entry = e }
+    new = holding line e
 
     abbrev moved : List Slot
     moved = in_slot s line i e
@@ -231,15 +233,16 @@ module _ (s : Condensed) (sound : Sound s) where
 
     pub moved_apart : Apart (in_slot s line i e)
     moved_apart a b =
-        set_cases (λ y. same_line y.line (get_or moved b empty).line ≡ true → a ≡ b) s.slots i a new empty room
+        set_cases (λ y. same_line (line_in y) (line_in (get_or moved b empty)) ≡ true → a ≡ b)
+        s.slots i a new empty room
         (λ at.
-        set_cases (λ z. same_line (Some line) z.line ≡ true → a ≡ b) s.slots i b new empty room
+        set_cases (λ z. same_line (Some line) (line_in z) ≡ true → a ≡ b) s.slots i b new empty room
         (λ same _. at ∙ sym same)
         (λ _ h. absurd (not_there b h)))
         (λ _.
-        set_cases (λ z. same_line (get_or s.slots a empty).line z.line ≡ true → a ≡ b)
+        set_cases (λ z. same_line (line_in (get_or s.slots a empty)) (line_in z) ≡ true → a ≡ b)
         s.slots i b new empty room
-        (λ _ h. absurd (not_there a (same_back (get_or s.slots a empty).line line h))) (λ _. sound.apart a b))
+        (λ _ h. absurd (not_there a (same_back (line_in (get_or s.slots a empty)) line h))) (λ _. sound.apart a b))
 
     pub moved_numbered : Numbered (in_slot s line i e)
     moved_numbered a n =
@@ -249,13 +252,13 @@ module _ (s : Condensed) (sound : Sound s) where
   -- No store holds the line that was in the slot, if there was one.
   module _ (line i : ℕ) (lt : line < line_limit) (nowhere : slot_of s.slots line ≡ None)
       (room : i < length s.slots)
-      (free : (n : ℕ) → holds (slice_index_or s.slots i empty) n ≡ true → (get_or s.slots i empty).entry.stores ≡ 0)
+      (free : stores_told (entry_in (get_or s.slots i empty)) ≡ 0)
       (e : Entry) (later : ℕ) where
     apart_now : Apart (in_slot s line i e)
     apart_now = moved_apart line i lt nowhere room e
 
     abbrev there : Slot
-    there = record { line = Some line; entry = e }
+    there = holding line e
 
     abbrev old : Slot
     old = slice_index_or s.slots i empty
@@ -277,13 +280,13 @@ module _ (s : Condensed) (sound : Sound s) where
     pub moved_here : told (moved_to s line i e later) line ≡ e
     moved_here =
         told_inside after line lt ∙ ap (told_from now_in after.filter line) in_moved
-        ∙ ap (λ y. y.entry) (get_or-set_same s.slots i there empty room)
+        ∙ ap entry_in (get_or-set_same s.slots i there empty room)
 
     out_reaches :
-        (n : ℕ) → (n ≢ line) → old.line ≡ Some n → NoEarlier old.entry.stamps
+        (n : ℕ) → (n ≢ line) → line_in old ≡ Some n → NoEarlier (entry_in old).stamps
         (filter_told left (indices_of n))
     out_reaches n ne is =
-        let stamps : Stamps = (get_or s.slots i empty).entry.stamps in
+        let stamps : Stamps = (entry_in (get_or s.slots i empty)).stamps in
         let gone : left ≡ filter_raised s.filter (indices_of n) stamps =
         ap (raised_for s.filter stamps line) is
         ∙ cond-false (n == line) s.filter (filter_raised s.filter (indices_of n) stamps) (ne_eqb n line ne) in
@@ -303,33 +306,33 @@ module _ (s : Condensed) (sound : Sound s) where
         (n : ℕ) → (n ≢ line) → (o : Option ℕ) → Spot s.slots n o
         → Kept (told_from s.slots s.filter n o) (told_from now_in left n (slot_of now_in n))
     moved_from n ne None sp =
-        let up : Grown s.filter left = out_grows line (get_or s.slots i empty).entry.stamps
-        (get_or s.slots i empty).line in
+        let up : Grown s.filter left = out_grows line (entry_in (get_or s.slots i empty)).stamps
+        (line_in (get_or s.slots i empty)) in
         subst (λ o. Kept (told_from s.slots s.filter n None) (told_from now_in left n o))
         (sym (gone_from n ne (λ k _. sp k)))
         (kept_free _ _ (told_grows s.filter left (indices_of n) up))
     moved_from n ne (Some j) sp = ⊎_elim taken stays (cases_eq j i)
       where
-        stays : (j ≢ i) → Kept (get_or s.slots j empty).entry (told_from now_in left n (slot_of now_in n))
+        stays : (j ≢ i) → Kept (entry_in (get_or s.slots j empty)) (told_from now_in left n (slot_of now_in n))
         stays apart =
             let same : get_or now_in j empty ≡ get_or s.slots j empty =
             get_or-set_other s.slots i j there empty apart in
             let found : slot_of now_in n ≡ Some j =
             found_in now_in apart_now n j (subst (λ y. holds y n ≡ true) (sym same) sp.1) in
-            kept_same _ _ (ap (told_from now_in left n) found ∙ ap (λ y. y.entry) same)
+            kept_same _ _ (ap (told_from now_in left n) found ∙ ap entry_in same)
 
-        taken : j ≡ i → Kept (get_or s.slots j empty).entry (told_from now_in left n (slot_of now_in n))
+        taken : j ≡ i → Kept (entry_in (get_or s.slots j empty)) (told_from now_in left n (slot_of now_in n))
         taken at =
             let held : holds (slice_index_or s.slots i empty) n ≡ true =
             subst (λ k. holds (slice_index_or s.slots k empty) n ≡ true) at sp.1 in
-            let is : (get_or s.slots i empty).line ≡ Some n = line_is (get_or s.slots i empty).line n held in
+            let is : (line_in (get_or s.slots i empty)) ≡ Some n = line_is (line_in (get_or s.slots i empty)) n held in
             let gone : slot_of now_in n ≡ None =
             gone_from n ne
-            (λ k other. untrue _ (λ h. other (sound.apart k i
-            (same_from (get_or s.slots k empty).line (get_or s.slots i empty).line n h held)))) in
-            subst (λ k. Kept (get_or s.slots k empty).entry (told_from now_in left n (slot_of now_in n))) (sym at)
-            (subst (λ o. Kept (get_or s.slots i empty).entry (told_from now_in left n o)) (sym gone)
-            (kept_out (get_or s.slots i empty).entry (filter_told left (indices_of n)) (free n held)
+            (λ k other. false_from_ne_true _ (λ h. other (sound.apart k i
+            (same_from (line_in (get_or s.slots k empty)) (line_in (get_or s.slots i empty)) n h held)))) in
+            subst (λ k. Kept (entry_in (get_or s.slots k empty)) (told_from now_in left n (slot_of now_in n))) (sym at)
+            (subst (λ o. Kept (entry_in (get_or s.slots i empty)) (told_from now_in left n o)) (sym gone)
+            (kept_out (entry_in (get_or s.slots i empty)) (filter_told left (indices_of n)) free
             (out_reaches n ne is)))
 
     pub moved_kept : (n : ℕ) → n < line_limit → (n ≢ line) → Kept (told s n) (told (moved_to s line i e later) n)
@@ -343,6 +346,6 @@ module _ (s : Condensed) (sound : Sound s) where
     sound_moved up fits =
         sound_with i there left later up fits apart_now (moved_numbered line i lt nowhere room e)
         (within_later left s.latest later
-        (out_within line (get_or s.slots i empty).entry.stamps (get_or s.slots i empty).line
+        (out_within line (entry_in (get_or s.slots i empty)).stamps (line_in (get_or s.slots i empty))
         (sound.slots_written i) (sound.slots_read i))
         up)

@@ -8,16 +8,18 @@ use Rattle.choice.specs.Rule.{chosen}
 use Rattle.book.specs.Time.{Time, earlier}
 use Rattle.book.specs.Meaning.{Keeps, Grows, Stays, Notes, Reserves, Adds, Releases, can_note}
 use Rattle.book.specs.Entries.{no_stamps, read_at, written_at, entry_read, entry_held, entry_more}
-use Rattle.book.specs.Entries.{entry_freed, free_with, owner_told}
+use Rattle.book.specs.Entries.{entry_freed, free_with, stores_told, owner_told, warp_or_first}
 use Rattle.book.specs.Exact.{FitsBy}
 use Rattle.condensed.specs.Filter.{indices_of, filter_told, filter_raised}
-use Rattle.condensed.specs.Condensed.{Condensed, Sound, condensed, condensed_new, empty, same_line, holds}
+use Rattle.condensed.specs.Condensed.{Condensed, Sound, condensed, condensed_new, empty, same_line, holding, line_in}
+use Rattle.condensed.specs.Condensed.{entry_in, holds}
 use Rattle.condensed.specs.Condensed.{slot_of, slot_key, or_else, place_for, told_from, told, in_slot, vacated}
 use Rattle.condensed.specs.Condensed.{turned_out, raised_for, note_in, reserve_in, change_in}
 use Rattle.book.specs.declared.entry.Entry.{Entry}
 use Rattle.book.specs.declared.entry.Stamps.{Stamps}
 use Rattle.book.specs.Order.{NoEarlier, stamps_same, raised_first, raised_second, later_bound}
-use Rattle.book.specs.ExactKeeps.{held_counts, same_owner_told, same_anywhere, numbered}
+use Rattle.book.specs.ExactKeeps.{held_counts, stores_by, same_owner_more}
+use Rattle.book.specs.ExactKeeps.{same_anywhere, numbered}
 use Rattle.condensed.specs.Indices.{indices_inside}
 use Rattle.condensed.specs.Sieve.{raised_grows, raised_reaches}
 use Rattle.condensed.specs.Slots.{Spot, spot, line_is}
@@ -45,7 +47,7 @@ module _ (s s' : Condensed) (line : ℕ) (others : (n : ℕ) → n < line_limit 
 pub sound_vacated : (s : Condensed) → Sound s → (line place : ℕ) → Sound (vacated s line place)
 sound_vacated s sound line place =
     sound_sifted s sound (turned_out s.filter (slice_index_or s.slots place empty) line) s.latest (omega arith)
-    (out_within s sound line (get_or s.slots place empty).entry.stamps (get_or s.slots place empty).line
+    (out_within s sound line (entry_in (get_or s.slots place empty)).stamps (line_in (get_or s.slots place empty))
     (sound.slots_written place) (sound.slots_read place))
 
 rises : {a b c d : Entry} → a ≡ c → b ≡ d → NoEarlier c.stamps d.stamps → NoEarlier a.stamps b.stamps
@@ -67,7 +69,7 @@ module _ (s : Condensed) (sound : Sound s) (line : ℕ) (lt : line < line_limit)
   bound_read : (told s line).stamps.read.0 ≤ s.latest
   bound_read = (condensed_tells s sound line lt).mark_bound
 
-  in_its_slot : (i : ℕ) → slot_of s.slots line ≡ Some i → told s line ≡ (get_or s.slots i empty).entry
+  in_its_slot : (i : ℕ) → slot_of s.slots line ≡ Some i → told s line ≡ (entry_in (get_or s.slots i empty))
   in_its_slot i here = told_inside s line lt ∙ ap (told_from s.slots s.filter line) here
 
   module _ (t : Time) where
@@ -93,7 +95,7 @@ module _ (s : Condensed) (sound : Sound s) (line : ℕ) (lt : line < line_limit)
         )
     notes_by (Some i) here =
         let later : ℕ = max s.latest t.0 in
-        let was : Entry = (get_or s.slots i empty).entry in
+        let was : Entry = (entry_in (get_or s.slots i empty)) in
         let e : Entry = entry_read was t in
         let after : Condensed = record { slots = in_slot s line i e; filter = s.filter; latest = later } in
         let is : told after line ≡ e = changed_here s sound line i lt here e later in
@@ -116,7 +118,7 @@ module _ (s : Condensed) (sound : Sound s) (line : ℕ) (lt : line < line_limit)
                 ⊎_elim
                 (λ same. subst (λ k. Stays condensed s after k) (sym same)
                 (record {
-                  same_stores = ap (λ x. x.stores) is ∙ sym (ap (λ x. x.stores) before);
+                  same_stores = ap stores_told is ∙ sym (ap stores_told before);
                   same_owner = ap owner_told is ∙ sym (ap owner_told before);
                 }))
                 (stays_by s after line kept n l) (cases_eq n line);
@@ -149,7 +151,7 @@ module _ (s : Condensed) (sound : Sound s) (line : ℕ) (lt : line < line_limit)
         record {
           grows = grows_by s after line kept (rises {a = told s line} refl is
               (raised_first (told s line).stamps (written_at (t.0 + 1))));
-          one_store = ap (λ x. x.stores) is;
+          one_store = ap stores_told is;
           its_owner = ap owner_told is;
           passes = subst (λ x. t.0 < x.stamps.write) (sym is) (omega arith);
           stays = stays_by s after line kept;
@@ -176,8 +178,8 @@ module _ (s : Condensed) (sound : Sound s) (line : ℕ) (lt : line < line_limit)
               (λ n l ne. kept_same (told s n) _ (changed_apart s sound line i lt here e later n l ne)),
         )
       where
-        its_line : (get_or s.slots i empty).line ≡ Some line
-        its_line = line_is (get_or s.slots i empty).line line
+        its_line : (line_in (get_or s.slots i empty)) ≡ Some line
+        its_line = line_is (line_in (get_or s.slots i empty)) line
             (subst (Spot s.slots line) here (spot s.slots line)).1
 
         with_filter : List Stamps → Condensed
@@ -192,7 +194,7 @@ module _ (s : Condensed) (sound : Sound s) (line : ℕ) (lt : line < line_limit)
         same : with_filter s.filter ≡ reserve_in s line t (Some i)
         same =
             ap with_filter
-            (sym (ap (raised_for s.filter (get_or s.slots i empty).entry.stamps line) its_line
+            (sym (ap (raised_for s.filter (entry_in (get_or s.slots i empty)).stamps line) its_line
             ∙ cond-true (line == line) s.filter _ (eq-eqb line line refl)))
 
   -- A line may be written into the slot that is for it, with an entry that fits.
@@ -206,21 +208,21 @@ module _ (s : Condensed) (sound : Sound s) (line : ℕ) (lt : line < line_limit)
           → or_else o c ≡ Some place
           → Sound (record { slots = in_slot s line place e; filter = s.filter; latest = later })
       by None c nowhere chose here =
-          sound_with s sound place (record { line = Some line; entry = e }) s.filter later up fits
+          sound_with s sound place (holding line e) s.filter later up fits
           (moved_apart s sound line place lt nowhere (chosen_free s.slots place (chose ∙ here)).0 e)
           (moved_numbered s sound line place lt nowhere (chosen_free s.slots place (chose ∙ here)).0 e)
           (within_later s.filter s.latest later (within_now s sound) up)
       by (Some i) c there chose here = sound_changed s sound line place lt (there ∙ here) e later up fits
 
   pub adds_by :
-      (o : Option ℕ) → slot_of s.slots line ≡ o → 0 < (told s line).stores
+      (o : Option ℕ) → slot_of s.slots line ≡ o → 0 < stores_told (told s line)
       → Sound (change_in s line entry_more o) × Adds condensed s (change_in s line entry_more o) line
   adds_by None nowhere held =
-      absurd (subst (λ x. 0 < x.stores → ⊥)
+      absurd (subst (λ x. 0 < stores_told x → ⊥)
       (sym (told_inside s line lt ∙ ap (told_from s.slots s.filter line) nowhere))
       (λ h. omega arith) held)
   adds_by (Some i) here held =
-      let was : Entry = (get_or s.slots i empty).entry in
+      let was : Entry = (entry_in (get_or s.slots i empty)) in
       let e' : Entry = entry_more was in
       let after : Condensed = record { slots = in_slot s line i e'; filter = s.filter; latest = max s.latest 0 } in
       let is : told after line ≡ e' = changed_here s sound line i lt here e' (max s.latest 0) in
@@ -228,15 +230,16 @@ module _ (s : Condensed) (sound : Sound s) (line : ℕ) (lt : line < line_limit)
       let kept : (n : ℕ) → n < line_limit → (n ≢ line) → Kept (told s n) (told after n) =
       λ n l ne. kept_same (told s n) (told after n) (changed_apart s sound line i lt here e'
       (max s.latest 0) n l ne) in
-      let had : 0 < was.stores = subst (λ x. 0 < x.stores) before held in
+      let had : 0 < stores_told was = subst (λ x. 0 < stores_told x) before held in
       let w : was.stamps.write ≤ max s.latest 0 = let h = sound.slots_written i in omega arith in
       let r : was.stamps.read.0 ≤ max s.latest 0 = let h = sound.slots_read i in omega arith in (
         sound_changed s sound line i lt here e' (max s.latest 0) (omega arith)
             (w, r, (λ _. sound.slots_stamped i had)),
         record {
           grows = grows_by s after line kept (rises before is (stamps_same was.stamps));
-          one_more = ap (λ x. x.stores) is ∙ sym (ap (λ x. x.stores + 1) before);
-          same_owner = ap owner_told is ∙ same_owner_told was.stores was.warp had ∙ sym (ap owner_told before);
+          one_more = ap stores_told is ∙ stores_by (warp_or_first (owner_told was)) (stores_told was + 1)
+              ∙ sym (ap (λ x. stores_told x + 1) before);
+          same_owner = ap owner_told is ∙ same_owner_more was had ∙ sym (ap owner_told before);
           stays = stays_by s after line kept;
           latest_bound = omega arith;
         },
@@ -251,13 +254,13 @@ module _ (s : Condensed) (sound : Sound s) (line : ℕ) (lt : line < line_limit)
         sound,
         record {
           grows = grows_by s s line kept (stamps_same (told s line).stamps);
-          no_stores = ap (λ x. x.stores) (told_inside s line lt ∙ ap (told_from s.slots s.filter line) nowhere);
+          no_stores = ap stores_told (told_inside s line lt ∙ ap (told_from s.slots s.filter line) nowhere);
           stays = stays_by s s line kept;
           latest_bound = omega arith;
         },
       )
   releases_by (Some i) here =
-      let was : Entry = (get_or s.slots i empty).entry in
+      let was : Entry = (entry_in (get_or s.slots i empty)) in
       let e' : Entry = entry_freed was in
       let after : Condensed = record { slots = in_slot s line i e'; filter = s.filter; latest = max s.latest 0 } in
       let is : told after line ≡ e' = changed_here s sound line i lt here e' (max s.latest 0) in
@@ -270,7 +273,7 @@ module _ (s : Condensed) (sound : Sound s) (line : ℕ) (lt : line < line_limit)
             (w, r, (λ c. absurd (omega arith))),
         record {
           grows = grows_by s after line kept (rises (in_its_slot i here) is (stamps_same was.stamps));
-          no_stores = ap (λ x. x.stores) is;
+          no_stores = ap stores_told is;
           stays = stays_by s after line kept;
           latest_bound = omega arith;
         },
@@ -289,7 +292,7 @@ condensed_keeps =
           (and_parts (nat_lt line line_limit) _ (and_parts _ _ parts.1).1).1;
       adds = λ s sound line can.
           adds_by s sound line (numbered line _ can) (slot_of s.slots line) refl
-          (held_counts (told s line).stores (and_parts _ _ (and_parts _ _ can).1).0);
+          (held_counts (stores_told (told s line)) (and_parts _ _ (and_parts _ _ can).1).0);
       releases = λ s sound line can. releases_by s sound line (ltb-true line line_limit can)
           (slot_of s.slots line) refl;
     }
@@ -307,14 +310,14 @@ sound_new =
       sixteen = refl;
       four_ways = refl;
       apart = λ i j h.
-          absurd (both_ways _ refl (subst (λ x. same_line x.line (get_or (replicate 16 empty) j empty).line ≡ true)
-          (new_slot i) h));
+          absurd (both_ways _ refl
+          (subst (λ x. same_line (line_in x) (line_in (get_or (replicate 16 empty) j empty)) ≡ true) (new_slot i) h));
       numbered = λ i n h. absurd (both_ways _ refl (subst (λ x. holds x n ≡ true) (new_slot i) h));
-      slots_written = λ i. subst (λ x. x.entry.stamps.write ≤ 0) (sym (new_slot i)) (omega arith);
-      slots_read = λ i. subst (λ x. x.entry.stamps.read.0 ≤ 0) (sym (new_slot i)) (omega arith);
+      slots_written = λ i. subst (λ x. (entry_in x).stamps.write ≤ 0) (sym (new_slot i)) (omega arith);
+      slots_read = λ i. subst (λ x. (entry_in x).stamps.read.0 ≤ 0) (sym (new_slot i)) (omega arith);
       filter_written = λ i. subst (λ x. x.write ≤ 0) (sym (new_stamps i)) (omega arith);
       filter_read = λ i. subst (λ x. x.read.0 ≤ 0) (sym (new_stamps i)) (omega arith);
-      slots_stamped = λ i h. absurd (no_stores (subst (λ x. 0 < x.entry.stores) (new_slot i) h));
+      slots_stamped = λ i h. absurd (no_stores (subst (λ x. 0 < stores_told (entry_in x)) (new_slot i) h));
     }
   where
     no_stores : 0 < 0 → ⊥

@@ -1,18 +1,21 @@
 -- The condensed book tells what every book must, and has a slot while fewer than sixteen lines are reserved.
-use Rattle.std.specs.Prelude.{◌≡◌, ℕ, ◌<◌, ◌≤◌, Bool, true, false, cond, List, map, length, get_or, is_some, Some, None, Option, ◌==◌, nat_eq, nat_lt, slice_index_or}
+use Rattle.std.specs.Prelude.{◌≡◌, ℕ, ◌<◌, ◌≤◌, true, false, List, map, length, get_or, is_some, Some, None, Option, nat_eq, nat_lt, slice_index_or}
 use Rattle.std.proofs.Math.Path.{refl}
 use Rattle.std.proofs.Common.{sym, ap, subst, ◌∙◌, arith}
 use Rattle.std.proofs.lemmas.List.{get_or-map, length-map}
-use Rattle.std.proofs.lemmas.Bool.{cond-true, eqb-true, eqb-false, ne_eqb, eq-eqb, lt-ltb, and_from, both_ways, not_from_false}
+use Rattle.std.proofs.lemmas.Bool.Decides.{nat_tests}
+use Rattle.std.proofs.lemmas.Bool.{cond-true, ne_eqb, eq-eqb, lt-ltb, and_from, both_ways, not_from_false}
 use Rattle.protocol.specs.Limits.{line_limit}
 use Rattle.choice.specs.Rule.{Chosen, FirstSmallest, chosen}
 use Rattle.choice.proofs.Law.{choice_law, within}
 use Rattle.book.specs.Meaning.{Tells, reserved, reserved_lines}
-use Rattle.book.specs.Entries.{untouched}
+use Rattle.book.specs.Entries.{untouched, stores_told}
 use Rattle.condensed.specs.Filter.{indices_of}
-use Rattle.condensed.specs.Condensed.{Condensed, Sound, condensed, empty, is_line, holds, slot_of, slot_key, key_of}
+use Rattle.condensed.specs.Condensed.{Condensed, Sound, condensed, empty, is_line, line_of, entry_of, line_in, entry_in}
+use Rattle.condensed.specs.Condensed.{holds, slot_of, slot_key, key_of}
 use Rattle.condensed.specs.Condensed.{or_else, place_for, told_from, told}
 use Rattle.book.specs.declared.entry.Entry.{Entry}
+use Rattle.condensed.specs.declared.slot.Occupant.{Occupant}
 use Rattle.condensed.specs.declared.slot.Slot.{Slot}
 use Rattle.book.specs.ExactKeeps.{held_has_owner, free_has_none, held_counts}
 use Rattle.condensed.specs.Sieve.{told_written, told_read}
@@ -27,30 +30,22 @@ told_inside s n lt =
     (lt-ltb n line_limit lt)
 
 -- The slot of a line that is reserved, as its key is none.
-no_key : (o : Option ℕ) (e : Entry) → key_of o e ≡ None → (n : ℕ) × (is_line o n ≡ true) × (0 < e.stores)
-no_key None e h = absurd (let z : ◌≡◌ {A = ℕ} 0 1 = cc in omega arith)
-no_key (Some n) e h = (n, eq-eqb n n refl, by (e.stores == 0) refl h)
-  where
-    by : (b : Bool) → (e.stores == 0) ≡ b → cond b (Some e.stamps.write) None ≡ None → 0 < e.stores
-    by true e' h' = absurd (let z : ◌≡◌ {A = ℕ} 0 1 = cc in omega arith)
-    by false e' h' = let ne = eqb-false e.stores 0 e' in omega arith
+no_key : (o : Option Occupant) → key_of o ≡ None
+    → (n : ℕ) × (is_line (line_of o) n ≡ true) × (0 < stores_told (entry_of o))
+no_key None h = absurd cc
+no_key (Some there) h = (there.line, eq-eqb there.line there.line refl, grind (arith, nat_tests))
 
-some_key : (o : Option ℕ) (e : Entry) (key n : ℕ) → key_of o e ≡ Some key → is_line o n ≡ true → e.stores ≡ 0
-some_key None e key n h k = absurd (both_ways false refl k)
-some_key (Some m) e key n h k = by (e.stores == 0) refl h
-  where
-    by : (b : Bool) → (e.stores == 0) ≡ b → cond b (Some e.stamps.write) None ≡ Some key → e.stores ≡ 0
-    by true e' h' = eqb-true e.stores 0 e'
-    by false e' h' = absurd (let z : ◌≡◌ {A = ℕ} 0 1 = cc in omega arith)
+some_key : (o : Option Occupant) (key : ℕ) → key_of o ≡ Some key → stores_told (entry_of o) ≡ 0
+some_key None key h = refl
+some_key (Some there) key h = grind (arith, nat_tests)
 
 too_many : (n : ℕ) → n < 16 → 16 ≤ n → is_some {T = ℕ} None ≡ true
 too_many n few all = absurd (omega arith)
 
--- A chosen slot is a slot, and no store holds its line.
+-- A chosen slot is a slot, and no store holds the line in it.
 pub chosen_free :
     (slots : List Slot) (place : ℕ) → chosen (map slot_key slots) ≡ Some place
-    → (place < length slots) × ((n : ℕ) → holds (slice_index_or slots place empty) n ≡ true
-    → (get_or slots place empty).entry.stores ≡ 0)
+    → (place < length slots) × (stores_told (entry_in (get_or slots place empty)) ≡ 0)
 chosen_free slots place is =
     let law : FirstSmallest (map slot_key slots) place = subst (Chosen (map slot_key slots)) is
     (choice_law (map slot_key slots)) in
@@ -58,7 +53,7 @@ chosen_free slots place is =
     let lt : place < length slots = subst (λ n. place < n) (length-map slots slot_key) room in
     let key : slot_key (slice_index_or slots place empty) ≡ Some law.key =
     sym (get_or-map slot_key slots place empty None lt) ∙ law.allowed in
-    (lt, λ n h. some_key (get_or slots place empty).line (get_or slots place empty).entry law.key n key h)
+    (lt, some_key (get_or slots place empty).occupant law.key key)
 
 module _ (s : Condensed) (sound : Sound s) where
   bound_written : (n : ℕ) (o : Option ℕ) → (told_from s.slots s.filter n o).stamps.write ≤ s.latest
@@ -69,13 +64,13 @@ module _ (s : Condensed) (sound : Sound s) where
   bound_read n None = told_read s.filter (indices_of n) s.latest sound.filter_read
   bound_read n (Some i) = sound.slots_read i
 
-  held_stamped : (n : ℕ) (o : Option ℕ) → 0 < (told_from s.slots s.filter n o).stores
+  held_stamped : (n : ℕ) (o : Option ℕ) → 0 < stores_told (told_from s.slots s.filter n o)
       → 0 < (told_from s.slots s.filter n o).stamps.write
   held_stamped n None h = absurd (omega arith)
   held_stamped n (Some i) h = sound.slots_stamped i h
 
   -- A line that stores hold is in a slot.
-  held_placed : (n : ℕ) (o other : Option ℕ) → 0 < (told_from s.slots s.filter n o).stores
+  held_placed : (n : ℕ) (o other : Option ℕ) → 0 < stores_told (told_from s.slots s.filter n o)
       → is_some (or_else o other) ≡ true
   held_placed n None other h = absurd (omega arith)
   held_placed n (Some i) other h = refl
@@ -83,13 +78,13 @@ module _ (s : Condensed) (sound : Sound s) where
   -- Where no slot may be taken, sixteen lines are reserved.
   module _ (full : (k : ℕ) → k < 16 → slot_key (slice_index_or s.slots k empty) ≡ None) where
     line_at : ℕ → ℕ
-    line_at k = elim (get_or s.slots k empty).line [ None ↦ 0 | Some n ↦ n ]
+    line_at k = elim (line_in (get_or s.slots k empty)) [ None ↦ 0 | Some n ↦ n ]
 
     in_line : (k : ℕ) → k < 16 → holds (slice_index_or s.slots k empty) (line_at k) ≡ true
     unfolding line_at
     in_line k l =
-        let found = no_key (get_or s.slots k empty).line (get_or s.slots k empty).entry (full k l) in
-        by (get_or s.slots k empty).line found.0 found.1
+        let found = no_key (get_or s.slots k empty).occupant (full k l) in
+        by (line_in (get_or s.slots k empty)) found.0 found.1
       where
         by : (o : Option ℕ) (n : ℕ) → is_line o n ≡ true → is_line o (elim o [ None ↦ 0 | Some m ↦ m ]) ≡ true
         by None n h = absurd (both_ways false refl h)
@@ -97,21 +92,21 @@ module _ (s : Condensed) (sound : Sound s) where
 
     held_line : (k : ℕ) → k < 16 → reserved condensed s (line_at k) ≡ true
     held_line k l =
-        let found = no_key (get_or s.slots k empty).line (get_or s.slots k empty).entry (full k l) in
+        let found = no_key (get_or s.slots k empty).occupant (full k l) in
         let here = in_line k l in
         let lt = sound.numbered k (line_at k) here in
-        let is : told s (line_at k) ≡ (get_or s.slots k empty).entry =
+        let is : told s (line_at k) ≡ (entry_in (get_or s.slots k empty)) =
         told_inside s (line_at k) lt
         ∙ ap (told_from s.slots s.filter (line_at k)) (found_in s.slots sound.apart (line_at k) k here) in
-        not_from_false _ (ap (λ e. nat_eq e.stores 0) is ∙ ne_eqb (get_or s.slots k empty).entry.stores 0
-        (let h = found.2 in omega arith))
+        not_from_false _ (ap (λ e. nat_eq (stores_told e) 0) is
+        ∙ ne_eqb (stores_told (entry_in (get_or s.slots k empty))) 0 (let h = found.2 in omega arith))
 
     pub all_reserved : 16 ≤ reserved_lines condensed s
     all_reserved =
         different_lines 16 line_limit line_at (reserved condensed s)
         (λ k l. (sound.numbered k (line_at k) (in_line k l), held_line k l))
         (λ i j l m e. sound.apart i j
-        (same_from (get_or s.slots i empty).line (get_or s.slots j empty).line (line_at i) (in_line i l)
+        (same_from (line_in (get_or s.slots i empty)) (line_in (get_or s.slots j empty)) (line_at i) (in_line i l)
         (subst (λ n. holds (slice_index_or s.slots j empty) n ≡ true) (sym e) (in_line j m))))
 
   some_place :
@@ -134,14 +129,14 @@ module _ (s : Condensed) (sound : Sound s) where
       record {
         stamp_bound = subst (λ x. x.stamps.write ≤ s.latest) (sym from) (bound_written line o);
         mark_bound = subst (λ x. x.stamps.read.0 ≤ s.latest) (sym from) (bound_read line o);
-        owned = λ h. (e.warp, held_has_owner e h);
+        owned = λ h. (_, held_has_owner e h);
         stamped = λ h.
-            subst (λ x. 0 < x.stores → 0 < x.stamps.write) (sym from) (held_stamped line o)
-            (held_counts e.stores h);
+            subst (λ x. 0 < stores_told x → 0 < x.stamps.write) (sym from) (held_stamped line o)
+            (held_counts (stores_told e) h);
         placed = λ h.
             and_from (nat_lt line line_limit) (is_some (place_for s.slots line)) (lt-ltb line line_limit lt)
             (held_placed line o (chosen (map slot_key s.slots))
-            (subst (λ x. 0 < x.stores) from (held_counts e.stores h)));
+            (subst (λ x. 0 < stores_told x) from (held_counts (stores_told e) h)));
         ownerless = λ h. free_has_none e h;
         room = λ few.
             and_from (nat_lt line line_limit) (is_some (place_for s.slots line)) (lt-ltb line line_limit lt)

@@ -1,6 +1,7 @@
 -- Different lines that pass a test are no more than the lines that pass it.
 use Rattle.std.specs.Prelude.{◌≡◌, ℕ, zero, suc, ◌+◌, ◌<◌, ◌≤◌, Bool, true, false, cond, not, ◌&&◌, ◌==◌, ◌≢◌, refl}
 use Rattle.std.proofs.Common.{⊎_elim, sym, ap, subst, ◌∙◌, arith}
+use Rattle.std.proofs.Math.Bool.{and-true, and-false}
 use Rattle.std.proofs.lemmas.Bool.{cases_eq, eq-eqb, ne_eqb}
 use Rattle.book.specs.Meaning.{counted}
 
@@ -8,19 +9,11 @@ use Rattle.book.specs.Meaning.{counted}
 abbrev without : (ℕ → Bool) → ℕ → ℕ → Bool
 without test x n = test n && not (n == x)
 
-and_true : (b : Bool) → (b && true) ≡ b
-and_true true = refl
-and_true false = refl
-
-and_false : (b : Bool) → (b && false) ≡ false
-and_false true = refl
-and_false false = refl
-
 without_apart : (test : ℕ → Bool) (x n : ℕ) → (n ≢ x) → without test x n ≡ test n
-without_apart test x n ne = ap (λ b. test n && not b) (ne_eqb n x ne) ∙ and_true (test n)
+without_apart test x n ne = ap (λ b. test n && not b) (ne_eqb n x ne) ∙ and-true (test n)
 
 without_same : (test : ℕ → Bool) (x : ℕ) → without test x x ≡ false
-without_same test x = ap (λ b. test x && not b) (eq-eqb x x refl) ∙ and_false (test x)
+without_same test x = ap (λ b. test x && not b) (eq-eqb x x refl) ∙ and-false (test x)
 
 counted_below : (test : ℕ → Bool) (x limit : ℕ) → limit ≤ x → counted (without test x) limit ≡ counted test limit
 counted_below test x zero h = refl

@@ -1,8 +1,8 @@
 -- A line's indices, bit by bit, and that each is within its way.
-use Rattle.std.specs.Prelude.{◌≡◌, ℕ, ◌+◌, ◌/◌, ◌%◌, ◌<◌, ◌≤◌, Bool, true, false, cond, ◌&&◌, List, [], ◌∷◌, length, drop, ◌==◌, bit_xor, nat_lt, slice_index, refl}
+use Rattle.std.specs.Prelude.{◌≡◌, ℕ, ◌+◌, ◌/◌, ◌%◌, ◌^◌, ◌<◌, ◌≤◌, Bool, true, false, cond, ◌&&◌, List, [], ◌∷◌, length, drop, ◌==◌, bit_xor, nat_lt, slice_index, refl}
 use Rattle.std.proofs.Common.{sym, ap, ◌∙◌, arith}
 use Rattle.std.specs.Int.Bits.{xor_zero_r, xor_assoc}
-use Rattle.std.proofs.lemmas.Nat.{xor_lt}
+use Rattle.std.proofs.lemmas.Nat.{xor_lt, shr-shr}
 use Rattle.std.proofs.lemmas.List.{drop_more, drop_all}
 use Rattle.std.proofs.lemmas.Bool.{cond_both, ltb-true, and_parts}
 use Rattle.condensed.specs.Filter.{index_by, indices_of, Inside, way_0, way_1, way_2, way_3}
@@ -25,6 +25,16 @@ index_more numbers i number index bits next lt is step =
     by : (b : Bool) → cond b (bit_xor index number) index ≡ bit_xor index (cond b number 0)
     by true = refl
     by false = sym (xor_zero_r index)
+
+-- The same where the bits are what is left of the line's number.
+pub index_next :
+    (numbers : List ℕ) (i number index line next : ℕ) → i < length numbers → number ≡ slice_index numbers i
+    → next ≡ cond (line / 2 ^ i % 2 == 1) (bit_xor index number) index
+    → bit_xor next (index_by (drop (i + 1) numbers) (line / 2 ^ (i + 1)))
+    ≡ bit_xor index (index_by (drop i numbers) (line / 2 ^ i))
+index_next numbers i number index line next lt is step =
+    ap (λ bits. bit_xor next (index_by (drop (i + 1) numbers) bits)) (sym (shr-shr line i 1))
+    ∙ index_more numbers i number index (line / 2 ^ i) next lt is step
 
 pub index_none : (numbers : List ℕ) (i index bits : ℕ) → length numbers ≤ i
     → bit_xor index (index_by (drop i numbers) bits) ≡ index

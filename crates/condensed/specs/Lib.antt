@@ -9,4 +9,3 @@ pub mod Slots
 pub mod CondensedTells
 pub mod Counting
 pub mod CondensedCalls
-pub mod PagesLemmas

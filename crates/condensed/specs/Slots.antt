@@ -1,14 +1,13 @@
 -- Where a line is found among the slots, and what a change of one slot leaves.
-use Rattle.std.specs.Prelude.{◌≡◌, ℕ, zero, suc, ◌<◌, Bool, true, false, cond, List, [], ◌∷◌, length, get_or, Some, None, Option, ◌≢◌, slice_index_or, slice_set, refl}
-use Rattle.std.proofs.Common.{suc-le-suc, sym, ap, subst, ◌∙◌, arith}
-use Rattle.std.proofs.lemmas.Bool.{eqb-true, eq-eqb, both_ways}
-use Rattle.std.specs.Option.{option_map}
-use Rattle.condensed.specs.Condensed.{empty, is_line, same_line, holds, slot_of, Apart}
+use Rattle.std.specs.Prelude.{◌≡◌, ℕ, zero, suc, ◌<◌, Bool, true, false, cond, List, [], ◌∷◌, length, get_or, Some, None, Option, slice_index_or, slice_set, nat_lt, refl}
+use Rattle.std.proofs.Common.{⊎_elim, sym, ap, subst, ◌∙◌, arith, length-set}
+use Rattle.std.proofs.lemmas.Bool.{cond-true, eqb-true, eq-eqb, lt-ltb, ltb-true, ltb-false, cases_lt, both_ways}
+use Rattle.std.specs.List.{position_or_len}
+use Rattle.std.proofs.lemmas.List.Sums.{passes_at_first, fails_before_first, position_or_len_is}
+use Rattle.std.proofs.lemmas.List.Folds.{position_or_len-set}
+use Rattle.std.proofs.lemmas.List.{get_or_past}
+use Rattle.condensed.specs.Condensed.{empty, is_line, same_line, line_in, holds, slot_of, Apart}
 use Rattle.condensed.specs.declared.slot.Slot.{Slot}
-
-pub untrue : (b : Bool) → (b ≢ true) → b ≡ false
-untrue true h = absurd (h refl)
-untrue false h = refl
 
 pub line_is : (o : Option ℕ) (n : ℕ) → is_line o n ≡ true → o ≡ Some n
 line_is None n h = absurd (both_ways false refl h)
@@ -27,63 +26,70 @@ abbrev pub Spot : List Slot → ℕ → Option ℕ → Type 0
 Spot slots n None = (k : ℕ) → holds (slice_index_or slots k empty) n ≡ false
 Spot slots n (Some i) = (i < length slots) × (holds (slice_index_or slots i empty) n ≡ true)
 
-by_place : (P : Slot → Type 0) (x : Slot) (xs : List Slot) → P x → ((k : ℕ) → P (slice_index_or xs k empty)) → (k : ℕ)
-    → P (slice_index_or (x ∷ xs) k empty)
-by_place P x xs here rest zero = here
-by_place P x xs here rest (suc k) = rest k
-
-spot_more :
-    (x : Slot) (xs : List Slot) (n : ℕ) (b : Bool) → holds x n ≡ b → (o : Option ℕ) → Spot xs n o
-    → Spot (x ∷ xs) n (cond b (Some 0) (option_map suc o))
-spot_more x xs n true e o s = (omega arith, e)
-spot_more x xs n false e None s = by_place (λ y. holds y n ≡ false) x xs e s
-spot_more x xs n false e (Some i) s = (suc-le-suc s.0, s.1)
-
 pub spot : (slots : List Slot) (n : ℕ) → Spot slots n (slot_of slots n)
 unfolding slot_of
-spot [] n = λ k. refl
-spot (x ∷ xs) n = spot_more x xs n (holds x n) refl (slot_of xs n) (spot xs n)
+spot slots n = by (nat_lt (position_or_len test slots) (length slots)) refl
+  where
+    test : Slot → Bool
+    test slot = holds slot n
 
+    by :
+        (b : Bool) → nat_lt (position_or_len test slots) (length slots) ≡ b
+        → Spot slots n (cond b (Some (position_or_len test slots)) None)
+    by true e =
+        let lt = ltb-true (position_or_len test slots) (length slots) e in
+        (lt, passes_at_first test slots empty lt)
+    by false e =
+        let past = ltb-false (position_or_len test slots) (length slots) e in λ k.
+        ⊎_elim (λ lt. fails_before_first test slots k empty (omega arith))
+        (λ out. ap test (get_or_past slots k empty out))
+        (cases_lt k (length slots))
+
+-- A line is in the first of the slots that hold it.
 pub first_found :
     (slots : List Slot) (n i : ℕ) → i < length slots → holds (slice_index_or slots i empty) n ≡ true
     → ((k : ℕ) → k < i → holds (slice_index_or slots k empty) n ≡ false) → slot_of slots n ≡ Some i
 unfolding slot_of
-first_found [] n i lt h before = absurd (omega arith)
-first_found (x ∷ xs) n zero lt h before = ap (λ b. cond b (Some 0) (option_map suc (slot_of xs n))) h
-first_found (x ∷ xs) n (suc i) lt h before =
-    ap (λ b. cond b (Some 0) (option_map suc (slot_of xs n))) (before 0 (omega arith))
-    ∙ ap (option_map suc) (first_found xs n i (omega arith) h (λ k l. before (suc k) (suc-le-suc l)))
+first_found slots n i lt h before =
+    let test : Slot → Bool = λ slot. holds slot n in
+    let is = position_or_len_is test slots i empty (omega arith) before (λ _. h) in
+    cond-true (nat_lt (position_or_len test slots) (length slots)) (Some (position_or_len test slots)) None
+    (lt-ltb (position_or_len test slots) (length slots) (omega arith)) ∙ ap Some is
 
 pub none_found :
     (slots : List Slot) (n : ℕ) → ((k : ℕ) → k < length slots → holds (slice_index_or slots k empty) n ≡ false)
     → slot_of slots n ≡ None
-unfolding slot_of
-none_found [] n h = refl
-none_found (x ∷ xs) n h =
-    ap (λ b. cond b (Some 0) (option_map suc (slot_of xs n))) (h 0 (omega arith))
-    ∙ ap (option_map suc) (none_found xs n (λ k l. h (suc k) (suc-le-suc l)))
+none_found slots n h = by (slot_of slots n) (spot slots n)
+  where
+    by : (o : Option ℕ) → Spot slots n o → o ≡ None
+    by None s = refl
+    by (Some i) s = absurd (both_ways (holds (slice_index_or slots i empty) n) (h i s.0) s.1)
 
 -- Where no line is in two slots, a line is found in whichever slot holds it.
 pub found_in :
-    (slots : List Slot) → Apart slots → (n i : ℕ) → holds (slice_index_or slots i empty) n ≡ true → slot_of slots n ≡ Some i
+    (slots : List Slot) → Apart slots → (n i : ℕ) → holds (slice_index_or slots i empty) n ≡ true
+    → slot_of slots n ≡ Some i
 found_in slots apart n i h = by (slot_of slots n) (spot slots n)
   where
     by : (o : Option ℕ) → Spot slots n o → o ≡ Some i
     by None s = absurd (both_ways (holds (slice_index_or slots i empty) n) (s i) h)
-    by (Some j) s = ap Some (apart j i (same_from (get_or slots j empty).line (get_or slots i empty).line n s.1 h))
+    by (Some j) s =
+        ap Some
+        (apart j i (same_from (line_in (get_or slots j empty)) (line_in (get_or slots i empty)) n s.1 h))
 
 -- A slot that keeps its line leaves every line where it was.
 pub slot_same :
-    (slots : List Slot) (i : ℕ) (x : Slot) → x.line ≡ (get_or slots i empty).line → (n : ℕ)
+    (slots : List Slot) (i : ℕ) (x : Slot) → line_in x ≡ line_in (get_or slots i empty) → (n : ℕ)
     → slot_of (slice_set slots i x) n ≡ slot_of slots n
 unfolding slot_of
-slot_same [] i x e n = refl
-slot_same (y ∷ ys) zero x e n = ap (λ l. cond (is_line l n) (Some 0) (option_map suc (slot_of ys n))) e
-slot_same (y ∷ ys) (suc i) x e n = ap (λ o. cond (holds y n) (Some 0) (option_map suc o)) (slot_same ys i x e n)
+slot_same slots i x e n =
+    let same = position_or_len-set (λ slot. holds slot n) slots i x empty (ap (λ l. is_line l n) e) in
+    let long = length-set slots i x in
+    simp (same, long)
 
 pub line_same :
-    (slots : List Slot) (i : ℕ) (x : Slot) → x.line ≡ (get_or slots i empty).line
-    → (k : ℕ) → (get_or (slice_set slots i x) k empty).line ≡ (get_or slots k empty).line
+    (slots : List Slot) (i : ℕ) (x : Slot) → line_in x ≡ line_in (get_or slots i empty)
+    → (k : ℕ) → (line_in (get_or (slice_set slots i x) k empty)) ≡ (line_in (get_or slots k empty))
 line_same [] i x e k = refl
 line_same (y ∷ ys) zero x e zero = e
 line_same (y ∷ ys) zero x e (suc k) = refl

@@ -1,18 +1,18 @@
 //! The condensed book: a few slots, and a filter that tells of all other lines no earlier than it must.
-ghost use Rattle.std.specs.Prelude.{◌≡◌, ◌<◌, max, IfSome, Some, None};
+ghost use Rattle.std.specs.Prelude.{◌≡◌, ◌<◌, max, Some, None};
+ghost use Rattle.std.specs.Option.{option_map};
 ghost use Rattle.protocol.specs.Limits.{line_limit};
 ghost use Rattle.book.specs.Meaning.{New};
 ghost use Rattle.book.specs.Earliest.{Earliest};
 ghost use Rattle.book.specs.Exact.{FitsBy};
 ghost use Rattle.condensed.specs.Condensed.{condensed, condensed_new, slot_of, place_in, place_for, told_from, told};
 ghost use Rattle.condensed.specs.Condensed.{Bounded, vacated, with_slot, note_in};
-ghost use Rattle.condensed.specs.Pages.{condensed_page};
+ghost use Rattle.condensed.specs.Pages.{place_at, condensed_page, sound_page};
 ghost use Rattle.condensed.specs.Shared.{SharedMark};
 ghost use Rattle.condensed.specs.CondensedKeeps.{condensed_keeps};
-ghost use Rattle.condensed.specs.PagesLemmas.{sound_page};
 
 use crate::filter::{Filter, indices};
-use crate::slot::Slot;
+use crate::slot::{Occupant, Place, Slot, position_of};
 use crate::state::CondensedBook;
 use book::entry::{Entry, Stamps, can_be};
 use book::record::{Book, Told};
@@ -38,51 +38,42 @@ impl CondensedBook {
     }
 
     /// The slot that the line is in.
-    fn slot_of(&self, line: u32) -> Option<usize>
-        ensures value { result ≡ slot_of self.now.slots line }
-        ensures within { IfSome result (λ place. place < 16) }
+    fn slot_of(&self, line: u32) -> Option<Place>
+        ensures { option_map place_at result ≡ slot_of self.now.slots line }
     {
-        for (place, slot) in self.slots.iter().enumerate() {
-            if slot.holds(line) {
-                return Some(place);
-            }
-        }
-        None
+        let at = position_of(&self.slots, line)?;
+        Some(Place { at })
     }
 
     /// The slot that the line is in, or else the one to take for it.
-    fn place_for(&self, line: u32) -> Option<usize>
-        ensures value { result ≡ place_for self.now.slots line }
-        ensures within { IfSome result (λ place. place < 16) }
+    fn place_for(&self, line: u32) -> Option<Place>
+        ensures { option_map place_at result ≡ place_for self.now.slots line }
     {
         self.place_in(self.slot_of(line))
     }
 
     /// The slot that a line is in, or else the one to take for it.
-    fn place_in(&self, inside: Option<usize>) -> Option<usize>
-        requires { IfSome inside (λ place. place < 16) }
-        ensures value { result ≡ place_in self.now.slots inside }
-        ensures within { IfSome result (λ place. place < 16) }
+    fn place_in(&self, inside: Option<Place>) -> Option<Place>
+        ensures { option_map place_at result ≡ place_in self.now.slots (option_map place_at inside) }
     {
-        match inside {
-            Some(place) => Some(place),
-            None => choose(&self.slots),
+        if inside.is_some() {
+            return inside;
         }
+        let at = choose(&self.slots)?;
+        Some(Place { at })
     }
 
     /// What the book tells of a line with a number, from the slot that it is in or else from the filter.
-    fn told_in(&self, line: u32, inside: Option<usize>) -> Entry
-        requires { IfSome inside (λ place. place < 16) }
-        ensures value { result ≡ told_from self.now.slots self.now.filter.entries line
-            inside }
+    fn told_in(&self, line: u32, inside: Option<Place>) -> Entry
+        ensures value { result
+            ≡ told_from self.now.slots self.now.filter.entries line (option_map place_at inside) }
         ensures bound { Bounded result.stamps self.now.latest }
     {
         match inside {
-            Some(place) => self.slots[place].entry,
+            Some(place) => self.slots[place.at].entry(),
             None => Entry {
                 stamps: self.filter.told(indices(line)),
-                stores: 0,
-                warp: 0,
+                ..Entry::UNTOUCHED
             },
         }
     }
@@ -99,30 +90,27 @@ impl CondensedBook {
     }
 
     /// Writes a line and its entry into the slot that is for it, and raises the latest stamp where it is earlier.
-    fn put(&mut self, line: u32, place: usize, entry: Entry, stamp: u32)
-        requires its_place { (place_for self.old.slots line ≡ Some place) × (place < 16) }
+    fn put(&mut self, line: u32, place: Place, entry: Entry, stamp: u32)
+        requires its_place { place_for self.old.slots line ≡ Some place.at }
         requires numbered { line < line_limit }
         requires fits { FitsBy (max self.old.latest stamp) entry }
         ensures { condensed_page self.new
-            ≡ with_slot (condensed_page self.old) line place entry stamp }
+            ≡ with_slot (condensed_page self.old) line place.at entry stamp }
     {
-        self.slots[place] = Slot {
-            line: Some(line),
-            entry,
+        self.slots[place.at] = Slot {
+            occupant: Some(Occupant { line, entry }),
         };
         self.latest = self.latest.max(stamp);
     }
 
     /// Leaves a slot to a line: another line that is in it raises its entries of the filter.
-    fn vacate(&mut self, line: u32, place: usize)
-        requires { place < 16 }
+    fn vacate(&mut self, line: u32, place: Place)
         ensures after { condensed_page self.new
-            ≡ vacated (condensed_page self.old) line place }
+            ≡ vacated (condensed_page self.old) line place.at }
         ensures slots { self.new.slots ≡ self.old.slots }
         ensures latest { self.new.latest ≡ self.old.latest }
     {
-        let old = self.slots[place];
-        self.filter.turn_out(old, line);
+        self.filter.turn_out(self.slots[place.at], line);
     }
 
     /// Notes a read of a line that is in no slot.
@@ -131,8 +119,8 @@ impl CondensedBook {
             ≡ note_in (condensed_page self.old) line time None }
     {
         let read = Stamps {
-            write: 0,
             read: time,
+            ..Stamps::NONE
         };
         self.filter.raise(indices(line), read);
         self.latest = self.latest.max(time.0);
@@ -148,6 +136,7 @@ impl Book for CondensedBook {
 
     ghost good = { sound_page };
 
+    // The questions read as the exact book's, over another look-up: the trait would have to know of look-ups.
     fn write_stamp(&self, line: u32) -> u32 {
         self.at(line).stamps.write
     }
@@ -157,7 +146,7 @@ impl Book for CondensedBook {
     }
 
     fn stores(&self, line: u32) -> u32 {
-        self.at(line).stores
+        self.at(line).stores()
     }
 
     fn owner(&self, line: u32) -> Option<u32> {
@@ -196,7 +185,12 @@ impl Book for CondensedBook {
             return Err(Refused);
         }
         match self.slot_of(line) {
-            Some(place) => self.put(line, place, self.slots[place].entry.read_at(time), time.0),
+            Some(place) => self.put(
+                line,
+                place,
+                self.slots[place.at].entry().read_at(time),
+                time.0,
+            ),
             None => self.note_outside(line, time),
         }
         Ok(())
@@ -208,12 +202,10 @@ impl Book for CondensedBook {
         }
         let inside = self.slot_of(line);
         let told = self.told_in(line, inside);
-        if told.stores > 0 {
+        if told.stores() > 0 {
             return Err(Refused);
         }
-        let Some(place) = self.place_in(inside) else {
-            return Err(Refused);
-        };
+        let place = self.place_in(inside).ok_or(Refused)?;
         self.vacate(line, place);
         self.put(line, place, told.held_by(time.1, time.0 + 1), time.0 + 1);
         Ok(())
@@ -223,14 +215,13 @@ impl Book for CondensedBook {
         if line >= LINES {
             return Err(Refused);
         }
-        let Some(place) = self.slot_of(line) else {
-            return Err(Refused);
-        };
-        let entry = self.slots[place].entry;
-        if entry.stores == 0 || entry.stores as usize >= STORES {
+        let place = self.slot_of(line).ok_or(Refused)?;
+        let entry = self.slots[place.at].entry();
+        let stores = entry.stores();
+        if stores == 0 || stores as usize >= STORES {
             return Err(Refused);
         }
-        self.put(line, place, entry.with_stores(entry.stores + 1), 0);
+        self.put(line, place, entry.with_stores(stores + 1), 0);
         Ok(())
     }
 
@@ -239,7 +230,7 @@ impl Book for CondensedBook {
             return Err(Refused);
         }
         if let Some(place) = self.slot_of(line) {
-            self.put(line, place, self.slots[place].entry.with_stores(0), 0);
+            self.put(line, place, self.slots[place.at].entry().with_stores(0), 0);
         }
         Ok(())
     }

@@ -15,6 +15,7 @@ pub struct Filter {
 }
 
 /// The four entries of a line, as one index in each way.
+// A form that is fixed (docs/DECISIONS.md): one array by value. So each call that takes it asks where it lies.
 pub fn indices(line: u32) -> [usize; 4]
     ensures value { result ≡ indices_of line }
     ensures inside { Inside result }
@@ -33,12 +34,10 @@ fn index(numbers: [usize; 12], line: u32) -> usize
     ensures { result ≡ index_by numbers line }
 {
     let mut index = 0;
-    let mut bits = line;
-    for number in numbers {
-        if bits % 2 == 1 {
-            index ^= number;
+    for (bit, number) in numbers.iter().enumerate() {
+        if (line >> bit) % 2 == 1 {
+            index ^= *number;
         }
-        bits /= 2;
     }
     index
 }
@@ -53,6 +52,7 @@ impl Filter {
     }
 
     /// The smallest write stamp and the earliest read mark of four entries.
+    #[tactic(auto, unfolding(crate::specs::Filter::filter_told))]
     pub(crate) fn told(&self, four: [usize; 4]) -> Stamps
         requires { Inside four }
         ensures { result ≡ filter_told self.now.entries four }
@@ -64,6 +64,7 @@ impl Filter {
     }
 
     /// Raises four entries to stamps, where they are earlier.
+    #[tactic(auto, unfolding(crate::specs::Filter::filter_raised))]
     pub(crate) fn raise(&mut self, four: [usize; 4], stamps: Stamps)
         requires { Inside four }
         ensures { self.new.entries ≡ filter_raised self.old.entries four stamps }
@@ -79,11 +80,10 @@ impl Filter {
     pub(crate) fn turn_out(&mut self, slot: Slot, line: u32)
         ensures { self.new.entries ≡ turned_out self.old.entries slot line }
     {
-        let Some(out) = slot.line else {
-            return;
-        };
-        if out != line {
-            self.raise(indices(out), slot.entry.stamps);
+        if let Some(out) = slot.occupant
+            && out.line != line
+        {
+            self.raise(indices(out.line), out.entry.stamps);
         }
     }
 
@@ -91,7 +91,6 @@ impl Filter {
         requires { place < 256 }
         ensures { self.new.entries ≡ raised_at self.old.entries place stamps }
     {
-        let entry = self.entries[place];
-        self.entries[place] = entry.raised(stamps);
+        self.entries[place] = self.entries[place].raised(stamps);
     }
 }

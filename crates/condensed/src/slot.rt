@@ -1,32 +1,47 @@
 //! A slot of the condensed book.
-ghost use Rattle.std.specs.Prelude.{◌≡◌};
-ghost use Rattle.condensed.specs.Condensed.{holds, slot_key};
+ghost use Rattle.std.specs.Prelude.{◌≡◌, ◌<◌, length, IfSome};
+ghost use Rattle.condensed.specs.Condensed.{holds, entry_in, slot_of, slot_key};
 
 use book::entry::Entry;
 use choice::Ranked;
 
-/// A slot and what is told of the line in it. Without a line the entry means nothing.
+/// A line in a slot, and what is told of it.
+#[derive(Clone, Copy, PartialEq, Eq, Debug)]
+pub struct Occupant {
+    pub line: u32,
+    pub entry: Entry,
+}
+
+/// A slot, and the line that it holds.
 #[derive(Clone, Copy, PartialEq, Eq, Debug)]
 pub struct Slot {
-    pub line: Option<u32>,
-    pub entry: Entry,
+    pub occupant: Option<Occupant>,
+}
+
+/// Which of the sixteen slots.
+#[derive(Clone, Copy)]
+pub(crate) struct Place {
+    pub(crate) at: usize,
+    ghost inside: { at < 16 },
 }
 
 impl Slot {
     /// A slot that holds no line.
-    pub const EMPTY: Slot = Slot {
-        line: None,
-        entry: Entry::UNTOUCHED,
-    };
+    pub const EMPTY: Slot = Slot { occupant: None };
 
     /// Whether the slot holds the line.
     pub fn holds(&self, line: u32) -> bool
         ensures { result ≡ holds self.now line }
     {
-        match self.line {
-            Some(held) => held == line,
-            None => false,
-        }
+        self.occupant.is_some_and(|occupant| occupant.line == line)
+    }
+
+    /// What is told of the line in the slot; without one, as of a line that no call named yet.
+    pub fn entry(self) -> Entry
+        ensures { result ≡ entry_in self }
+    {
+        self.occupant
+            .map_or(Entry::UNTOUCHED, |occupant| occupant.entry)
     }
 }
 
@@ -35,12 +50,18 @@ impl Ranked for Slot {
     ghost key = { slot_key };
 
     fn rank(&self) -> Option<u64> {
-        if self.line.is_none() {
+        let Some(Occupant { entry, .. }) = self.occupant else {
             return Some(0);
-        }
-        if self.entry.stores > 0 {
-            return None;
-        }
-        Some(u64::from(self.entry.stamps.write))
+        };
+        (entry.stores() == 0).then_some(u64::from(entry.stamps.write))
     }
+}
+
+/// The first of the slots that holds the line.
+#[tactic(auto, unfolding(crate::specs::Condensed::slot_of))]
+pub(crate) fn position_of(slots: &[Slot], line: u32) -> Option<usize>
+    ensures value { result ≡ slot_of slots.now line }
+    ensures within { IfSome result (λ at. at < length slots.now) }
+{
+    slots.iter().position(|slot| slot.holds(line))
 }

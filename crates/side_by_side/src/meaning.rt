@@ -1,69 +1,65 @@
 //! The meanings of a book, checked on what it tells before and after a call.
-use crate::told::Told;
+use crate::told::Look;
 use book::call::BookCall;
 use book::entry::comes_before;
 
-/// Whether a call did to a line what it may, by what was told of the line before and after it.
-pub fn kept(call: BookCall, granted: bool, line: u32, before: Told, after: Told) -> bool {
-    if !granted {
-        return before == after;
+/// A call that was made of a book, and whether the book granted it.
+#[derive(Clone, Copy)]
+pub struct Made {
+    pub call: BookCall,
+    pub granted: bool,
+}
+
+impl Made {
+    /// Whether the call did to a line what it may, by what was told of the line before and after it.
+    pub fn kept(self, before: &Look, after: &Look) -> bool {
+        if !self.granted {
+            return before == after;
+        }
+        if after.is_earlier(before) {
+            return false;
+        }
+        match self.call {
+            BookCall::Note { line, time } => stays(before, after)
+                && (line != after.line || !comes_before(after.told.read, time)),
+            _ if self.call.line() != after.line => stays(before, after),
+            BookCall::Reserve { time, .. } => after.stores == 1
+                && after.told.owner == Some(time.1)
+                && time.0 < after.told.written,
+            BookCall::Add { .. } => {
+                before.stores.checked_add(1) == Some(after.stores)
+                    && after.told.owner == before.told.owner
+            }
+            BookCall::Release { .. } => after.stores == 0,
+        }
     }
-    if after.stamp < before.stamp || comes_before(after.mark, before.mark) {
-        return false;
-    }
-    match call {
-        BookCall::Note { line: at, time } => stays(before, after)
-            && (at != line || !comes_before(after.mark, time)),
-        BookCall::Reserve { line: at, time } => {
-            if at != line {
-                stays(before, after)
-            } else {
-                after.stores == 1 && after.owner == Some(time.1) && time.0 < after.stamp
+
+    /// Whether the latest stamp rose no further than it may.
+    pub fn bounded(self, before: u32, after: u32) -> bool {
+        let most = match self.call {
+            BookCall::Note { time, .. } if self.granted => before.max(time.0),
+            BookCall::Reserve { time, .. } if self.granted => {
+                before.max(time.0.saturating_add(1))
             }
-        }
-        BookCall::Add { line: at } => {
-            if at != line {
-                stays(before, after)
-            } else {
-                before.stores < after.stores
-                    && after.stores - before.stores == 1
-                    && after.owner == before.owner
-            }
-        }
-        BookCall::Release { line: at } => {
-            if at != line {
-                stays(before, after)
-            } else {
-                after.stores == 0
-            }
-        }
+            _ => before,
+        };
+        after <= most
     }
 }
 
 /// A line's reservation is as it was.
-fn stays(before: Told, after: Told) -> bool {
-    after.stores == before.stores && after.owner == before.owner
+fn stays(before: &Look, after: &Look) -> bool {
+    after.stores == before.stores && after.told.owner == before.told.owner
 }
 
 /// Whether what is told of a line fits together, under the latest stamp.
-pub fn sound(told: Told, latest: u32) -> bool {
-    if told.stamp > latest || told.mark.0 > latest {
+pub fn sound(look: &Look, latest: u32) -> bool {
+    let told = look.told;
+    if told.written > latest || told.read.0 > latest {
         return false;
     }
-    if told.stores == 0 {
+    if look.stores == 0 {
         return told.owner.is_none();
     }
-    told.owner.is_some() && told.stamp > 0 && told.slot
-}
-
-/// How far the latest stamp may rise.
-pub fn bounded(call: BookCall, granted: bool, before: u32, after: u32) -> bool {
-    let most = match call {
-        _ if !granted => before,
-        BookCall::Note { line: _, time } => before.max(time.0),
-        BookCall::Reserve { line: _, time } => before.max(time.0.saturating_add(1)),
-        BookCall::Add { line: _ } => before,
-        BookCall::Release { line: _ } => before,
-    };
-    after <= most
+    told.owner.is_some() && told.written > 0 && told.slot
 }

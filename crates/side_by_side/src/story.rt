@@ -1,5 +1,5 @@
 //! A few calls that show how the two books differ.
-use crate::told::tell;
+use crate::told::Look;
 use book::call::{BookCall, make_both};
 use book::exact::ExactBook;
 use condensed::state::CondensedBook;
@@ -121,37 +121,14 @@ pub fn tell_story(rt: &impl Print) -> io::Result<()> {
         } else {
             "no"
         };
-        let line = print_call(rt, call, answer)?;
+        println!(rt; "{call}: {answer}")?;
+        let line = call.line();
         print_line(rt, &exact, &condensed, line)?;
         if line != 5 {
             print_line(rt, &exact, &condensed, 5)?;
         }
     }
     Ok(())
-}
-
-/// Prints a call and its answer, and gives its line.
-fn print_call(rt: &impl Print, call: BookCall, answer: &str) -> io::Result<u32> {
-    match call {
-        BookCall::Note { line, time } => {
-            let (stamp, warp) = time;
-            println!(rt; "note {line} at ({stamp}, {warp}): {answer}")?;
-            Ok(line)
-        }
-        BookCall::Reserve { line, time } => {
-            let (stamp, warp) = time;
-            println!(rt; "reserve {line} at ({stamp}, {warp}): {answer}")?;
-            Ok(line)
-        }
-        BookCall::Add { line } => {
-            println!(rt; "add {line}: {answer}")?;
-            Ok(line)
-        }
-        BookCall::Release { line } => {
-            println!(rt; "release {line}: {answer}")?;
-            Ok(line)
-        }
-    }
 }
 
 /// Prints what each book tells of a line.
@@ -161,7 +138,7 @@ fn print_line(
     condensed: &CondensedBook,
     line: u32,
 ) -> io::Result<()> {
-    let a = tell(exact, line);
-    let b = tell(condensed, line);
+    let a = Look::at(exact, line);
+    let b = Look::at(condensed, line);
     println!(rt; "    line {line}: exact {a}; condensed {b}")
 }

@@ -26,11 +26,10 @@ impl ExactBook {
     fn at(&self, line: u32) -> Entry
         ensures { result ≡ entry_at (exact_page self.now) line }
     {
-        if line < LINES {
-            self.entries[line as usize]
-        } else {
-            Entry::UNTOUCHED
-        }
+        self.entries
+            .get(line as usize)
+            .copied()
+            .unwrap_or(Entry::UNTOUCHED)
     }
 
     /// Sets the entry of a line, and raises the latest stamp where it is earlier.
@@ -62,7 +61,7 @@ impl Book for ExactBook {
     }
 
     fn stores(&self, line: u32) -> u32 {
-        self.at(line).stores
+        self.at(line).stores()
     }
 
     fn owner(&self, line: u32) -> Option<u32> {
@@ -87,7 +86,7 @@ impl Book for ExactBook {
 
     fn reserve(&mut self, line: u32, time: (u32, u32)) -> Result<(), Refused> {
         let entry = self.at(line);
-        if line >= LINES || !can_be(time) || entry.stores > 0 {
+        if line >= LINES || !can_be(time) || entry.stores() > 0 {
             return Err(Refused);
         }
         self.set(line, entry.held_by(time.1, time.0 + 1), time.0 + 1);
@@ -96,10 +95,11 @@ impl Book for ExactBook {
 
     fn add(&mut self, line: u32) -> Result<(), Refused> {
         let entry = self.at(line);
-        if line >= LINES || entry.stores == 0 || entry.stores as usize >= STORES {
+        let stores = entry.stores();
+        if line >= LINES || stores == 0 || stores as usize >= STORES {
             return Err(Refused);
         }
-        self.set(line, entry.with_stores(entry.stores + 1), 0);
+        self.set(line, entry.with_stores(stores + 1), 0);
         Ok(())
     }
 

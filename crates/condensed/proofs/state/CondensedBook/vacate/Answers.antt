@@ -1,27 +1,21 @@
 -- The filter may be raised to the stamps of a line that is in a slot.
-use Rattle.std.proofs.Common.{ap}
-use Rattle.condensed.specs.Condensed.{Condensed, vacated}
+use Rattle.std.proofs.Common.{◌<◌, length, sym, ap, subst, ◌∙◌, arith}
+use Rattle.std.proofs.lemmas.List.{get_or_default}
+use Rattle.condensed.specs.Condensed.{Condensed, Sound, empty, page_of, turned_out}
 use Rattle.condensed.specs.Pages.{condensed_page}
 use Rattle.condensed.specs.CondensedKeeps.{sound_vacated}
-use Rattle.condensed.specs.PagesLemmas.{sound_page, facts_of}
 use Rattle.condensed.proofs.state.CondensedBook.vacate.Goals as goal
 
 pub invariant_of-self : goal.invariant_of-self
 invariant_of-self c =
     let b = c.args.self.now in
     let s : Condensed = condensed_page b in
-    let f =
-    facts_of (record { slots = b.slots; filter = c.turn_out.new.self.entries; latest = b.latest })
-    (vacated s c.args.line c.args.place)
-    (ap (λ f. record { slots = b.slots; filter = f; latest = b.latest }) c.turn_out.ensures)
-    (sound_vacated s (sound_page b) c.args.line c.args.place) in
+    let inside = c.args.place.inside in
+    let sixteen = b.sound.sixteen in
+    let room : c.args.place.at < length b.slots = omega arith in
+    let slot = get_or_default b.slots c.args.place.at c.index-self-place.result empty room in
+    let after = c.turn_out.ensures ∙ ap (λ x. turned_out b.filter.entries x c.args.line) slot in
     record {
-      sixteen = f.0;
-      apart = f.1.0;
-      numbered = f.1.1.0;
-      written = f.1.1.1.0;
-      read = f.1.1.1.1.0;
-      filter_written = f.1.1.1.1.1.0;
-      filter_read = f.1.1.1.1.1.1.0;
-      stamped = f.1.1.1.1.1.1.1.0;
+      sound = subst Sound (sym (ap (λ f. page_of b.slots f b.latest) after))
+          (sound_vacated s b.sound c.args.line c.args.place.at);
     }

@@ -2,16 +2,17 @@
 use protocol::answer::Outcome;
 
 /// What a load or a store wants of its line.
-#[derive(Clone, Copy)]
+#[derive(Clone, Copy, Default)]
 pub enum Access {
     /// The line's value.
+    #[default]
     Read,
     /// A new value for the line, once the transaction commits.
     Write { value: u32 },
 }
 
 /// A load or a store that waits.
-#[derive(Clone, Copy)]
+#[derive(Clone, Copy, Default)]
 pub struct Request {
     pub warp: u32,
     pub line: u32,

@@ -1,23 +1,25 @@
 -- How the queue goes on fitting the rows, and that there is room for the request of a warp that does not wait.
-use Rattle.std.proofs.Common.{◌≡◌, ℕ, zero, suc, ◌+◌, ◌<◌, ◌≤◌, min, Bool, true, false, cond, not, eqb, ltb, List, [], ◌∷◌, ◌++◌, length, get_or, take, set, is_some, Some, None, sym, refl, ap, ◌∙◌, subst, ⊎_elim, arith}
-use Rattle.std.proofs.lemmas.List.{get_or-set_same, get_or-set_other, length-map, length-take, get_or_default}
-use Rattle.std.proofs.lemmas.Bool.{and_parts, and_from, both_ways, not-true, not_from_false, eqb-true, eqb-false, eq-eqb, ne_eqb, cases_lt, lt-ltb, ltb-true, cond-true}
-use Rattle.rules.specs.Queue.{request_of, without, access_at}
-use Rattle.rules.specs.State.{Lane, is_waiting}
+use Rattle.std.proofs.Common.{◌≡◌, ℕ, zero, suc, ◌+◌, ◌<◌, ◌≤◌, Bool, true, false, cond, ltb, List, [], ◌∷◌, ◌++◌, map, length, get_or, set, is_some, Some, sym, refl, ap, ◌∙◌, subst, arith}
+use Rattle.std.proofs.lemmas.List.{get_or-set_other, length-map, length-set}
+use Rattle.std.proofs.lemmas.Bool.Decides.{nat_tests}
+use Rattle.std.proofs.lemmas.Bool.{and_parts, and_from, both_ways, not-true, not_from_false}
+use Rattle.rules.specs.Queue.{request_of, without}
+use Rattle.rules.specs.State.{Lane, in_phase, is_waiting}
 use Rattle.rules.specs.declared.state.Access.{Access}
 use Rattle.rules.specs.declared.state.Access.TheVariants.{Read, Write}
-use Rattle.rules.specs.declared.state.Phase.TheVariants.{Idle, Waiting}
+use Rattle.rules.specs.declared.state.Phase.{Phase}
 use Rattle.rules.specs.declared.state.Request.{Request}
-use Rattle.tables.proofs.Lanes.{lane_row, lane_past}
-use Rattle.tables.specs.Pages.{lane_at, pending_at, has_room}
-use Rattle.tables.specs.Rows.{no_row, pair_of, logged, lane_in, lanes_in}
+use Rattle.tables.proofs.Lanes.{lane_row, log_long}
+use Rattle.tables.specs.Pages.{lanes, queued, lane, lane_at, has_room}
+use Rattle.tables.specs.Rows.{no_row, lane_in}
 use Rattle.tables.specs.Sound.{fits, sound, Sound}
 use Rattle.tables.specs.declared.row.Row.{Row}
+use Rattle.tables.specs.declared.state.Tables.{Tables}
 
 abbrev waits_in : List Row → ℕ → Bool
 waits_in rows w = is_waiting (get_or rows w no_row).phase
 
-abbrev asks : List Request → ℕ → Bool
+abbrev pub asks : List Request → ℕ → Bool
 asks q w = is_some (request_of q w)
 
 fits_waits : (row : Row) (access : Access) → fits row access ≡ true → is_waiting row.phase ≡ true
@@ -39,25 +41,13 @@ parts rows r rest s =
 whole : (rows : List Row) (r : Request) (rest : List Request) → Parts rows r rest → Sound rows (r ∷ rest)
 whole rows r rest p = and_from _ _ p.first_fits (and_from _ _ (not_from_false _ p.alone) p.sound_rest)
 
-asks_cons : (r : Request) (rest : List Request) (w : ℕ) → asks (r ∷ rest) w ≡ cond (eqb r.warp w) true (asks rest w)
-asks_cons r rest w = by (eqb r.warp w)
-  where
-    by : (b : Bool) → is_some (cond b (Some r) (request_of rest w)) ≡ cond b true (asks rest w)
-    by true = refl
-    by false = refl
-
 asks_none : (r : Request) (rest : List Request) (w : ℕ) → asks (r ∷ rest) w ≡ false
     → (r.warp ≡ w → ⊥) × (asks rest w ≡ false)
-asks_none r rest w e = by (eqb r.warp w) refl (sym (asks_cons r rest w) ∙ e)
-  where
-    by : (b : Bool) → eqb r.warp w ≡ b → cond b true (asks rest w) ≡ false
-        → (r.warp ≡ w → ⊥) × (asks rest w ≡ false)
-    by true is f = absurd (both_ways true f refl)
-    by false is f = (eqb-false _ _ is, f)
+asks_none r rest w e = (λ (is : r.warp ≡ w). grind (arith, nat_tests), grind (arith, nat_tests))
 
 asks_other : (r : Request) (rest : List Request) (w : ℕ) → (r.warp ≡ w → ⊥) → asks rest w ≡ false → asks (r ∷ rest) w
     ≡ false
-asks_other r rest w ne e = asks_cons r rest w ∙ ap (λ b. cond b true (asks rest w)) (ne_eqb _ _ ne) ∙ e
+asks_other r rest w ne e = grind (arith, nat_tests)
 
 -- A warp that does not wait has no request.
 pub no_request_of :
@@ -87,53 +77,24 @@ sound_set rows (r ∷ rest) w row s e =
     })
 
 -- Requests may leave.
-without_cons :
-    (r : Request) (rest : List Request) (w : ℕ)
-    → without (r ∷ rest) w ≡ cond (eqb r.warp w) (without rest w) (r ∷ without rest w)
-without_cons r rest w = by (eqb r.warp w)
-  where
-    by : (b : Bool) → cond (not b) (r ∷ without rest w) (without rest w) ≡ cond b (without rest w) (r ∷ without rest w)
-    by true = refl
-    by false = refl
-
 asks_without : (q : List Request) (w v : ℕ) → asks q v ≡ false → asks (without q w) v ≡ false
 asks_without [] w v e = refl
 asks_without (r ∷ rest) w v e =
     let n = asks_none r rest v e in
-    ap (λ q. asks q v) (without_cons r rest w) ∙ by (eqb r.warp w) n.0 (asks_without rest w v n.1)
-  where
-    by :
-        (b : Bool) → (r.warp ≡ v → ⊥) → asks (without rest w) v ≡ false
-        → asks (cond b (without rest w) (r ∷ without rest w)) v ≡ false
-    by true ne f = f
-    by false ne f = asks_other r (without rest w) v ne f
+    let rest_none = asks_without rest w v n.1 in
+    grind (arith, nat_tests, rest_none, n.0)
 
 pub gone_without : (q : List Request) (w : ℕ) → asks (without q w) w ≡ false
 gone_without [] w = refl
-gone_without (r ∷ rest) w = ap (λ q. asks q w) (without_cons r rest w) ∙ by (eqb r.warp w) refl (gone_without rest w)
-  where
-    by :
-        (b : Bool) → eqb r.warp w ≡ b → asks (without rest w) w ≡ false
-        → asks (cond b (without rest w) (r ∷ without rest w)) w ≡ false
-    by true is f = f
-    by false is f = asks_other r (without rest w) w (eqb-false _ _ is) f
+gone_without (r ∷ rest) w = let rest_gone = gone_without rest w in grind (arith, nat_tests, rest_gone)
 
 pub sound_without : (rows : List Row) (q : List Request) (w : ℕ) → Sound rows q → Sound rows (without q w)
 sound_without rows [] w s = refl
 sound_without rows (r ∷ rest) w s =
     let p = parts rows r rest s in
-    subst (Sound rows) (sym (without_cons r rest w))
-    (by (eqb r.warp w) p (asks_without rest w r.warp p.alone) (sound_without rows rest w p.sound_rest))
-  where
-    by :
-        (b : Bool) → Parts rows r rest → asks (without rest w) r.warp ≡ false → Sound rows (without rest w)
-        → Sound rows (cond b (without rest w) (r ∷ without rest w))
-    by true p a f = f
-    by false p a f = whole rows r (without rest w) (record { first_fits = p.first_fits; alone = a; sound_rest = f })
-
-pub sound_settled :
-    (rows : List Row) (q : List Request) (w : ℕ) (row : Row) → Sound rows q → Sound (set rows w row) (without q w)
-sound_settled rows q w row s = sound_set rows (without q w) w row (sound_without rows q w s) (gone_without q w)
+    let alone = asks_without rest w r.warp p.alone in
+    let rest_sound = sound_without rows rest w p.sound_rest in
+    grind (arith, nat_tests)
 
 -- A request may come that fits its row, of a warp that has none.
 asks_push :
@@ -161,18 +122,11 @@ sound_push rows (x ∷ xs) r s e f =
 pub request_fits :
     (rows : List Row) (q : List Request) (w : ℕ) (r : Request) → Sound rows q → request_of q w ≡ Some r
     → fits (get_or rows w no_row) r.access ≡ true
-request_fits rows [] w r s e = let z : ◌≡◌ {A = ℕ} 0 1 = cc in absurd (omega arith)
-request_fits rows (x ∷ xs) w r s e = by (eqb x.warp w) refl e (parts rows x xs s) (request_fits rows xs w r)
-  where
-    by :
-        (b : Bool) → eqb x.warp w ≡ b → cond b (Some x) (request_of xs w) ≡ Some r → Parts rows x xs
-        → (Sound rows xs → request_of xs w ≡ Some r → fits (get_or rows w no_row) r.access ≡ true)
-        → fits (get_or rows w no_row) r.access ≡ true
-    by true is f p rest =
-        let same : x ≡ r = cc in
-        subst (λ (y : Request). fits (get_or rows w no_row) y.access ≡ true) same
-        (subst (λ v. fits (get_or rows v no_row) x.access ≡ true) (eqb-true _ _ is) p.first_fits)
-    by false is f p rest = rest p.sound_rest f
+request_fits rows [] w r s e = cc
+request_fits rows (x ∷ xs) w r s e =
+    let p = parts rows x xs s in
+    let rest_fits = request_fits rows xs w r p.sound_rest in
+    grind (arith, nat_tests, rest_fits)
 
 -- There are no more requests than waiting rows.
 abbrev waiting : List Row → ℕ
@@ -181,37 +135,22 @@ waiting (row ∷ rows) = cond (is_waiting row.phase) 1 0 + waiting rows
 
 waiting_most : (rows : List Row) → waiting rows ≤ length rows
 waiting_most [] = omega arith
-waiting_most (row ∷ rows) = by (is_waiting row.phase) (waiting_most rows)
-  where
-    by : (b : Bool) → waiting rows ≤ length rows → cond b 1 0 + waiting rows ≤ suc (length rows)
-    by true h = omega arith
-    by false h = omega arith
+waiting_most (row ∷ rows) = let h = waiting_most rows in grind (arith, nat_tests)
 
 waiting_fewer : (rows : List Row) (w : ℕ) → w < length rows → waits_in rows w ≡ false → waiting rows < length rows
 waiting_fewer [] w l e = absurd (omega arith)
 waiting_fewer (row ∷ rows) zero l e =
     let h = waiting_most rows in
-    subst (λ b. cond b 1 0 + waiting rows < suc (length rows)) (sym e) (let p = h in omega arith)
-waiting_fewer (row ∷ rows) (suc w) l e = by (is_waiting row.phase) (waiting_fewer rows w (omega arith) e)
-  where
-    by : (b : Bool) → waiting rows < length rows → cond b 1 0 + waiting rows < suc (length rows)
-    by true h = omega arith
-    by false h = omega arith
+    grind (arith, nat_tests)
+waiting_fewer (row ∷ rows) (suc w) l e = let h = waiting_fewer rows w (omega arith) e in grind (arith, nat_tests)
 
 waiting_less :
     (rows : List Row) (w : ℕ) → waits_in rows w ≡ true → waiting (set rows w no_row) + 1 ≡ waiting rows
 waiting_less [] w e = absurd (both_ways false refl e)
-waiting_less (row ∷ rows) zero e =
-    subst (λ b. 0 + waiting rows + 1 ≡ cond b 1 0 + waiting rows) (sym e) (omega arith)
+waiting_less (row ∷ rows) zero e = grind (arith, nat_tests)
 waiting_less (row ∷ rows) (suc w) e =
     let h = waiting_less rows w e in
-    by (is_waiting row.phase) h
-  where
-    by :
-        (b : Bool) → waiting (set rows w no_row) + 1 ≡ waiting rows
-        → cond b 1 0 + waiting (set rows w no_row) + 1 ≡ cond b 1 0 + waiting rows
-    by true h = omega arith
-    by false h = omega arith
+    omega arith
 
 few_requests : (rows : List Row) (q : List Request) → Sound rows q → length q ≤ waiting rows
 few_requests rows [] s = omega arith
@@ -222,7 +161,11 @@ few_requests rows (r ∷ rest) s =
     (sound_set rows rest r.warp no_row p.sound_rest p.alone) in
     omega arith
 
-pub room_for_one :
+row_waits :
+    (rows : List Row) (w : ℕ) → is_waiting (lane_at (map lane_in rows) w).phase ≡ false → waits_in rows w ≡ false
+row_waits rows w idle = ap (λ (l : Lane). is_waiting l.phase) (sym (lane_row rows w)) ∙ idle
+
+room_for_one :
     (rows : List Row) (q : List Request) (w : ℕ) → Sound rows q → w < length rows → waits_in rows w ≡ false
     → length q < length rows
 room_for_one rows q w s l e =
@@ -230,71 +173,61 @@ room_for_one rows q w s l e =
     let b = waiting_fewer rows w l e in
     omega arith
 
--- A row with the lane's room for a request, once it waits.
-pub fits_waiting :
-    (row old : Row) (access : Access) → is_waiting row.phase ≡ true → row.len ≡ old.len
-    → has_room (lane_in old) access ≡ true → fits row access ≡ true
-fits_waiting row old Read e same room = e
-fits_waiting row old (Write value) e same room =
-    let size = old.size in
-    let long : length (logged old.len old.stores) ≡ min old.len (length old.stores) =
-    length-map (take old.len old.stores) pair_of ∙ length-take old.len old.stores in
-    let less = ltb-true (length (logged old.len old.stores)) 32 room in
-    and_from _ _ e (lt-ltb row.len 32 (omega arith))
+-- The room for a request does not hang on the phase.
+pub room_in_phase : (l : Lane) (phase : Phase) (access : Access) → has_room (in_phase l phase) access ≡ has_room l access
+room_in_phase l phase Read = refl
+room_in_phase l phase (Write value) = refl
 
--- What a waiting warp's request asks for has room.
-pub pending_room :
-    (n : ℕ) (rows : List Row) (q : List Request) (w : ℕ) (r : Request) → n ≤ length rows → Sound rows q
-    → Waiting ≡ (lane_at (lanes_in n rows) w).phase → Some r ≡ request_of q w
-    → has_room (lane_at (lanes_in n rows) w) r.access ≡ true
-pending_room n rows q w r m s waits asked =
-    ⊎_elim
-    (λ low.
-    let is = lane_row n rows w no_row low m in
-    subst (λ l. has_room l r.access ≡ true) (sym is)
-    (room_of (get_or rows w no_row) r.access (request_fits rows q w r s (sym asked))))
-    (λ past.
-    let is : Waiting ≡ Idle = waits ∙ ap (λ (l : Lane). l.phase) (lane_past n rows w past m) in
-    let z : ◌≡◌ {A = ℕ} 0 1 = cc in
-    absurd (omega arith))
-    (cases_lt w n)
-  where
-    room_of : (row : Row) (access : Access) → fits row access ≡ true → has_room (lane_in row) access ≡ true
-    room_of row Read e = refl
-    room_of row (Write value) e =
-        let long : length (logged row.len row.stores) ≡ min row.len (length row.stores) =
-        length-map (take row.len row.stores) pair_of ∙ length-take row.len row.stores in
-        let less = ltb-true row.len 32 (and_parts (is_waiting row.phase) (ltb row.len 32) e).1 in
-        lt-ltb (length (logged row.len row.stores)) 32 (omega arith)
+-- A row may have a request that its lane waits for and has room for.
+pub fits_lane :
+    (row : Row) (access : Access) → is_waiting row.phase ≡ true → has_room (lane_in row) access ≡ true
+    → fits row access ≡ true
+fits_lane row Read e room = e
+fits_lane row (Write value) e room =
+    and_from _ _ e (subst (λ n. ltb n 32 ≡ true) (log_long row) room)
 
-pub pending_is :
-    (ls : List Lane) (q : List Request) (w line : ℕ) (r : Request) → Waiting ≡ (lane_at ls w).phase
-    → Some r ≡ request_of q w → r.line ≡ line → Some r.access ≡ pending_at ls q w line
-pending_is ls q w line r waits asked at =
-    sym (cond-true (eqb r.line line) (Some r.access) None (eq-eqb _ _ at))
-    ∙ ap (λ o. access_at o line) asked
-    ∙ ap (λ p. cond (is_waiting p) (access_at (request_of q w) line) None) waits
+room_of : (row : Row) (access : Access) → fits row access ≡ true → has_room (lane_in row) access ≡ true
+room_of row Read e = refl
+room_of row (Write value) e =
+    subst (λ n. ltb n 32 ≡ true) (sym (log_long row)) (and_parts (is_waiting row.phase) _ e).1
 
--- A lane's phase is its row's.
-pub row_waits :
-    (n : ℕ) (rows : List Row) (w : ℕ) (b : Bool) → w < n → n ≤ length rows
-    → is_waiting (lane_at (lanes_in n rows) w).phase ≡ b → is_waiting (get_or rows w no_row).phase ≡ b
-row_waits n rows w b low m e = ap (λ (l : Lane). is_waiting l.phase) (sym (lane_row n rows w no_row low m)) ∙ e
+-- What the tables' invariant gives.
+module _ (t : Tables) where
+  -- What a request asks for has room.
+  pub pending_room :
+      (w : ℕ) (r : Request) → Some r ≡ request_of (queued t) w → has_room (lane t w) r.access ≡ true
+  pending_room w r asked =
+      ap (λ l. has_room l r.access) (lane_row t.rows.items w)
+      ∙ room_of (get_or t.rows.items w no_row) r.access (request_fits t.rows.items (queued t) w r t.sound (sym asked))
 
--- A warp that does not wait takes a place behind all others.
-pub waits_sound :
-    (n : ℕ) (rows : List Row) (q : List Request) (r : Request) (row d : Row) → n ≤ length rows → Sound rows q
-    → r.warp < n → is_waiting (lane_at (lanes_in n rows) r.warp).phase ≡ false
-    → has_room (lane_at (lanes_in n rows) r.warp) r.access ≡ true
-    → is_waiting row.phase ≡ true → row.len ≡ (get_or rows r.warp d).len
-    → Sound (set rows r.warp row) (q ++ r ∷ [])
-waits_sound n rows q r row d m s low idle room waits same =
-    let w = r.warp in
-    let old = get_or rows w no_row in
-    let long : row.len ≡ old.len = same ∙ ap (λ (x : Row). x.len) (get_or_default rows w d no_row (omega arith)) in
-    let none = no_request_of rows q w s (row_waits n rows w false low m idle) in
-    let here : get_or (set rows w row) w no_row ≡ row = get_or-set_same rows w row no_row (omega arith) in
-    let roomy : has_room (lane_in old) r.access ≡ true =
-    subst (λ l. has_room l r.access ≡ true) (lane_row n rows w no_row low m) room in
-    sound_push (set rows w row) q r (sound_set rows q w row s none) none
-    (subst (λ x. fits x r.access ≡ true) (sym here) (fits_waiting row old r.access waits long roomy))
+  -- A warp that does not wait has no request, and there is room for one.
+  pub free : (w : ℕ) → is_waiting (lane t w).phase ≡ false → asks (queued t) w ≡ false
+  free w idle = no_request_of t.rows.items (queued t) w t.sound (row_waits t.rows.items w idle)
+
+  pub room_for : (w : ℕ) → w < length (lanes t) → is_waiting (lane t w).phase ≡ false → length (queued t) < 32
+  room_for w low idle =
+      let long = length-map t.rows.items lane_in in
+      let count = t.count in
+      let room = room_for_one t.rows.items (queued t) w t.sound (omega arith) (row_waits t.rows.items w idle) in
+      omega arith
+
+  -- The row of a warp without a request may change.
+  pub row_set :
+      (w : ℕ) (row : Row) → asks (queued t) w ≡ false
+      → (length (set t.rows.items w row) ≤ 32) × Sound (set t.rows.items w row) (queued t)
+  row_set w row none =
+      let long = length-set t.rows.items w row in
+      let count = t.count in (
+        omega arith,
+        sound_set t.rows.items (queued t) w row t.sound none,
+      )
+
+  -- A request may come of a warp that has none, once its lane waits and has room for it.
+  pub request_may_come :
+      (r : Request) (l : Lane) → asks (queued t) r.warp ≡ false → lane t r.warp ≡ l
+      → is_waiting l.phase ≡ true → has_room l r.access ≡ true → Sound t.rows.items (queued t ++ r ∷ [])
+  request_may_come r l none is waits room =
+      let here : lane_in (get_or t.rows.items r.warp no_row) ≡ l = sym (lane_row t.rows.items r.warp) ∙ is in
+      sound_push t.rows.items (queued t) r t.sound none
+      (fits_lane (get_or t.rows.items r.warp no_row) r.access (ap (λ (x : Lane). is_waiting x.phase) here ∙ waits)
+      (ap (λ (x : Lane). has_room x r.access) here ∙ room))

@@ -1,4 +1,4 @@
-mod Loops
+mod Words
 pub mod Lanes
 mod Fitting
 mod Order

@@ -8,11 +8,11 @@ use Rattle.rules.specs.declared.state.Access.TheVariants.{Read, Write}
 use Rattle.rules.specs.declared.state.Phase.TheVariants.{Open}
 use Rattle.rules.specs.declared.state.Request.{Request}
 use Rattle.tables.specs.Lists.{places}
-use Rattle.tables.specs.Rows.{lanes_in}
+use Rattle.tables.specs.Rows.{lane_in}
 use Rattle.tables.specs.declared.state.Tables.{Tables}
 
 abbrev pub lanes : Tables → List Lane
-lanes t = lanes_in t.warps t.rows
+lanes t = map lane_in t.rows.items
 
 abbrev pub queued : Tables → List Request
 queued t = places t.queue

@@ -1,7 +1,6 @@
 -- What stores, logs and rows mean.
-use Rattle.std.specs.Prelude.{ℕ, Bool, cond, not, List, [], ◌∷◌, ◌++◌, map, take, replicate, slice_index, refl}
-use Rattle.std.proofs.Common.{lit<}
-use Rattle.rules.specs.Lists.{has}
+use Rattle.std.specs.Prelude.{ℕ, List, map, take, replicate, refl}
+use Rattle.std.proofs.Common.{lit<, lit≤}
 use Rattle.rules.specs.State.{Lane}
 use Rattle.rules.specs.declared.state.Phase.TheVariants.{Idle}
 use Rattle.tables.specs.declared.row.Store.{Store}
@@ -17,19 +16,11 @@ abbrev pub logged : ℕ → List Store → List (ℕ × ℕ)
 logged len stores = map pair_of (take len stores)
 
 abbrev pub log_of : Log → List (ℕ × ℕ)
-log_of log = logged log.len log.stores
+log_of log = map pair_of log.stores.items
 
 -- The line of each store.
 abbrev pub lines_in : List (ℕ × ℕ) → List ℕ
 lines_in stores = map (λ (s : ℕ × ℕ). s.0) stores
-
--- A store that is the first of its line joins those before it.
-abbrev pub first_pushed : List (ℕ × ℕ) → ℕ × ℕ → List (ℕ × ℕ)
-first_pushed stores s = cond (has s.0 (lines_in stores)) stores (stores ++ s ∷ [])
-
--- A number stands at no place before its own.
-abbrev pub is_first : List ℕ → ℕ → Bool
-is_first ns place = not (has (slice_index ns place) (take place ns))
 
 -- A row is a lane.
 abbrev pub lane_in : Row → Lane
@@ -40,8 +31,5 @@ abbrev pub no_store : Store
 no_store = record { line = 0; value = 0; inside = lit< tt }
 
 abbrev pub no_row : Row
-no_row = record { phase = Idle; stamp = 0; len = 0; stores = replicate 32 no_store; size = refl }
-
--- The first rows are the warps' lanes.
-abbrev pub lanes_in : ℕ → List Row → List Lane
-lanes_in warps rows = map lane_in (take warps rows)
+no_row =
+    record { phase = Idle; stamp = 0; len = 0; stores = replicate 32 no_store; size = refl; room = lit≤ tt }

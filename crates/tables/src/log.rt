@@ -1,12 +1,13 @@
 //! Logs: made from a row after one check, changed by value.
-ghost use Rattle.std.specs.Prelude.{◌≡◌, ◌<◌, ◌≤◌, [], ◌∷◌, ◌++◌, length, if◌then◌else◌, Some, None, nat_eq, nat_le, nat_lt, slice_index_or};
+ghost use Rattle.std.specs.Prelude.{◌≡◌, ◌<◌, ◌≤◌, [], ◌∷◌, ◌++◌, map, length, if◌then◌else◌, Some, None, nat_le, nat_lt};
 ghost use Rattle.std.specs.Option.{option_map};
 ghost use Rattle.protocol.specs.Limits.{line_limit, log_limit};
 ghost use Rattle.rules.specs.Lists.{has, last_stored};
 ghost use Rattle.rules.specs.Ending.{logged_lines};
-ghost use Rattle.tables.specs.Rows.{pair_of, logged, log_of, lines_in, first_pushed, is_first};
+ghost use Rattle.tables.specs.Rows.{pair_of, logged, log_of, lines_in};
 
 use crate::row::{Log, Store};
+use arrayvec::ArrayVec;
 use protocol::limits::STORES;
 
 impl Store {
@@ -17,15 +18,14 @@ impl Store {
     {
         Store { line, value }
     }
+}
 
-    /// The store's value if it is of the line, else what was found before.
-    fn newer(self, line: u32, found: Option<u32>) -> Option<u32>
-        ensures { result ≡ (if nat_eq self.line line then Some self.value else found) }
-    {
-        if self.line == line {
-            return Some(self.value);
-        }
-        found
+// By hand, since a derived one is refused beside a ghost field.
+impl Default for Store {
+    ghost is_default = { λ store. pair_of store ≡ (0, 0) };
+
+    fn default() -> Store {
+        Store { line: 0, value: 0 }
     }
 }
 
@@ -34,34 +34,31 @@ impl Log {
     pub fn new() -> Log
         ensures { log_of result ≡ [] }
     {
-        let stores = [Store { line: 0, value: 0 }; 32];
-        Log { len: 0, stores }
+        Log {
+            stores: ArrayVec::new(),
+        }
     }
 
     /// The log of the first of some stores, if a log may be so long.
-    pub fn of(len: usize, stores: [Store; 32]) -> Option<Log>
-        ensures { option_map log_of result ≡ (if nat_le len log_limit then Some (logged len stores) else None) }
+    // A form that is fixed (docs/DECISIONS.md): a row's number of stores and its array as they stand, for one check.
+    pub fn of(len: usize, stores: &[Store; 32]) -> Option<Log>
+        ensures { option_map log_of result ≡ (if nat_le len log_limit then Some (logged len stores.now) else None) }
     {
         if len > STORES {
             return None;
         }
-        Some(Log { len, stores })
+        let mut log = Log::new();
+        log.stores.try_extend_from_slice(&stores[..len]).ok()?;
+        Some(log)
     }
 
     /// The log with one store more, if it has room for it.
-    pub fn push(self, store: Store) -> Option<Log>
+    pub fn push(mut self, store: Store) -> Option<Log>
         ensures { option_map log_of result
             ≡ (if nat_lt (length (log_of self)) log_limit then Some (log_of self ++ pair_of store ∷ []) else None) }
     {
-        if self.len >= STORES {
-            return None;
-        }
-        let mut stores = self.stores;
-        stores[self.len] = store;
-        Some(Log {
-            len: self.len + 1,
-            stores,
-        })
+        self.stores.try_push(store).ok()?;
+        Some(self)
     }
 
     /// How many stores there are.
@@ -69,24 +66,27 @@ impl Log {
         ensures value { result ≡ length (log_of self.now) }
         ensures room { result ≤ log_limit }
     {
-        self.len
+        self.stores.len()
     }
 
-    /// The store at a place.
-    pub fn at(&self, place: usize) -> Store
-        requires { place < length (log_of self.now) }
-        ensures { pair_of result ≡ slice_index_or (log_of self.now) place (0, 0) }
+    /// The stores, in the order made.
+    pub fn stores(&self) -> &[Store]
+        ensures value { map pair_of result.now ≡ log_of self.now }
+        ensures room { length result.now ≤ log_limit }
     {
-        self.stores[place]
+        self.stores.as_slice()
     }
 
     /// The last value that was stored to the line, if any.
     pub fn latest(&self, line: u32) -> Option<u32>
         ensures { result ≡ last_stored (log_of self.now) line }
     {
+        // A form that is fixed (docs/DECISIONS.md): a loop over the stored part looks for the latest.
         let mut found = None;
-        for place in 0..self.len {
-            found = self.stores[place].newer(line, found);
+        for store in self.stores() {
+            if store.line == line {
+                found = Some(store.value);
+            }
         }
         found
     }
@@ -95,52 +95,27 @@ impl Log {
     pub fn has_line(&self, line: u32) -> bool
         ensures { result ≡ has line (lines_in (log_of self.now)) }
     {
-        for place in 0..self.len {
-            let store = self.stores[place];
-            if store.line == line {
-                return true;
-            }
-        }
-        false
+        self.stores.iter().any(|store| store.line == line)
     }
 
     /// The first store of each line that is stored to, in their order.
     pub fn firsts(&self) -> Log
         ensures { lines_in (log_of result) ≡ logged_lines (log_of self.now) }
     {
+        Log::firsts_of(self.stores())
+    }
+
+    /// The first of some stores for each line that they are of, in their order.
+    pub(crate) fn firsts_of(stores: &[Store]) -> Log
+        requires { length stores.now ≤ log_limit }
+        ensures { lines_in (log_of result) ≡ logged_lines (map pair_of stores.now) }
+    {
         let mut firsts = Log::new();
-        for place in 0..self.len {
-            firsts = firsts.with_first(self.stores[place]);
-        }
-        firsts
-    }
-
-    /// The log with the store, if that is the first of its line.
-    fn with_first(self, store: Store) -> Log
-        requires { length (log_of self) < log_limit }
-        ensures { log_of result ≡ first_pushed (log_of self) (pair_of store) }
-    {
-        if self.has_line(store.line) {
-            return self;
-        }
-        match self.push(store) {
-            Some(log) => log,
-            None => self,
-        }
-    }
-
-    /// Whether the store at a place is the first of its line.
-    pub fn is_first(&self, place: usize) -> bool
-        requires { place < length (log_of self.now) }
-        ensures { result ≡ is_first (lines_in (log_of self.now)) place }
-    {
-        let line = self.at(place).line;
-        for earlier in 0..place {
-            let store = self.stores[earlier];
-            if store.line == line {
-                return false;
+        for store in stores {
+            if !firsts.has_line(store.line) {
+                firsts.stores.push(*store);
             }
         }
-        true
+        firsts
     }
 }

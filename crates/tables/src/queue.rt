@@ -1,13 +1,105 @@
-//! The requests that wait.
-ghost use Rattle.std.specs.Prelude.{◌≡◌, ◌≤◌, length};
+//! The requests that wait: who waits for what, and whether there is room for one more.
+ghost use Rattle.std.specs.Prelude.{◌≡◌, ◌<◌, [], ◌∷◌, ◌++◌, length};
+ghost use Rattle.rules.specs.Lists.{push_new, distinct};
+ghost use Rattle.rules.specs.Queue.{request_of, without, requests_on, is_full};
+ghost use Rattle.tables.specs.Lists.{places, place_at, lines_waited};
 
+use arrayvec::ArrayVec;
 use rules::state::Request;
 
 /// At most 32 requests, in the order in which they came.
-#[derive(Clone, Copy)]
+#[derive(Clone, Drop)]
 pub struct Queue {
-    pub(crate) len: usize,
-    pub(crate) places: [Request; 32],
-    ghost room: { len ≤ 32 },
-    ghost size: { length places ≡ 32 },
+    pub(crate) requests: ArrayVec<Request, 32>,
+}
+
+/// One number more, unless it is there.
+#[tactic(auto, using(crate::proofs::Words::number_found))]
+fn push_new(numbers: &mut ArrayVec<u32, 32>, number: u32)
+    requires { length numbers.old.items < 32 }
+    ensures { numbers.new.items ≡ push_new numbers.old.items number }
+{
+    if !numbers.contains(&number) {
+        numbers.push(number);
+    }
+}
+
+impl Queue {
+    /// A queue in which nothing waits.
+    pub fn new() -> Queue
+        ensures { places result ≡ [] }
+    {
+        Queue {
+            requests: ArrayVec::new(),
+        }
+    }
+
+    /// How many requests wait.
+    pub fn len(&self) -> usize
+        ensures { result ≡ length (places self.now) }
+    {
+        self.requests.len()
+    }
+
+    /// The request at a place, counted from 0 in the order in which they came.
+    pub fn place(&self, n: usize) -> Option<Request>
+        ensures { result ≡ place_at (places self.now) n }
+    {
+        self.requests.get(n).copied()
+    }
+
+    /// The request of a warp, if it has one.
+    pub fn request_of(&self, warp: u32) -> Option<Request>
+        ensures { result ≡ request_of (places self.now) warp }
+    {
+        self.requests
+            .iter()
+            .find(|request| request.warp == warp)
+            .copied()
+    }
+
+    /// One request more, behind all others.
+    pub fn push(&mut self, request: Request)
+        requires { length (places self.old) < 32 }
+        ensures { places self.new ≡ places self.old ++ request ∷ [] }
+    {
+        self.requests.push(request);
+    }
+
+    /// A warp's request leaves.
+    pub fn take_out(&mut self, warp: u32)
+        ensures { places self.new ≡ without (places self.old) warp }
+    {
+        self.requests.retain(|request| request.warp != warp);
+    }
+
+    /// How many requests wait for a line.
+    pub fn count_on(&self, line: u32) -> usize
+        ensures { result ≡ length (requests_on (places self.now) line) }
+    {
+        self.requests
+            .iter()
+            .filter(|request| request.line == line)
+            .count()
+    }
+
+    /// How many lines are waited for.
+    pub fn count_lines(&self) -> usize
+        ensures { result ≡ length (distinct (lines_waited (places self.now))) }
+    {
+        let mut lines: ArrayVec<u32, 32> = ArrayVec::new();
+        for request in self.requests.as_slice() {
+            push_new(&mut lines, request.line);
+        }
+        lines.len()
+    }
+
+    /// Whether there is no room for one more request for a line: the line has all that it may have, or it has none
+    /// while as many lines as may wait at once have some.
+    pub fn is_full(&self, line: u32) -> bool
+        ensures { result ≡ is_full 4 4 (places self.now) line }
+    {
+        let here = self.count_on(line);
+        here >= 4 || (here == 0 && self.count_lines() >= 4)
+    }
 }

@@ -1,11 +1,12 @@
 //! What the warps are doing, and what changes it.
-ghost use Rattle.std.specs.Prelude.{◌≡◌, ◌<◌, true, false, [], ◌∷◌, ◌++◌, length, nat_lt, slice_set};
+ghost use Rattle.std.specs.Prelude.{◌≡◌, ◌<◌, true, false, [], ◌∷◌, ◌++◌, length, is_some, nat_lt, slice_set, MatchOption};
 ghost use Rattle.protocol.specs.Limits.{log_limit};
+ghost use Rattle.rules.specs.Ending.{logged_lines};
 ghost use Rattle.rules.specs.Queue.{request_of, requests_on, without, is_full};
 ghost use Rattle.rules.specs.State.{idle_at, in_phase, logging, is_waiting};
 ghost use Rattle.rules.specs.declared.state.Phase.TheVariants.{Open, Waiting, Settled};
 ghost use Rattle.tables.specs.Lists.{place_at};
-ghost use Rattle.tables.specs.Rows.{log_of, lane_in};
+ghost use Rattle.tables.specs.Rows.{log_of, lines_in, lane_in};
 ghost use Rattle.tables.specs.Pages.{lanes, queued, lane, open_at, pending_at, room_for, has_room};
 
 use crate::row::{Log, Row, Store};
@@ -13,17 +14,25 @@ use crate::state::Tables;
 use protocol::answer::Outcome;
 use rules::state::{Access, Phase, Request};
 
+// By hand, since a derived one is refused beside a ghost field.
+impl Default for Row {
+    ghost is_default = { λ row. lane_in row ≡ idle_at 0 };
+
+    fn default() -> Row {
+        Row::idle(0)
+    }
+}
+
 impl Row {
     /// The row of a warp without a transaction.
     pub(crate) fn idle(stamp: u64) -> Row
         ensures { lane_in result ≡ idle_at stamp }
     {
-        let stores = [Store { line: 0, value: 0 }; 32];
         Row {
             phase: Phase::Idle,
             stamp,
             len: 0,
-            stores,
+            stores: [Store::default(); 32],
         }
     }
 
@@ -31,11 +40,43 @@ impl Row {
     fn log(&self) -> Log
         ensures { log_of result ≡ (lane_in self.now).log }
     {
-        let stores = self.stores;
-        let Some(log) = Log::of(self.len, stores) else {
-            return Log { len: 32, stores };
-        };
-        log
+        Log::of(self.len, &self.stores).unwrap()
+    }
+
+    /// The first store of each line in the row's log, in their order.
+    fn firsts(&self) -> Log
+        ensures { lines_in (log_of result) ≡ logged_lines (lane_in self.now).log }
+    {
+        Log::firsts_of(&self.stores[..self.len])
+    }
+
+    /// Another phase.
+    fn enter(&mut self, phase: Phase)
+        ensures { lane_in self.new ≡ in_phase (lane_in self.old) phase }
+    {
+        self.phase = phase;
+    }
+
+    /// A phase and a stamp, with an empty log.
+    fn start(&mut self, phase: Phase, stamp: u64)
+        ensures { lane_in self.new ≡ record { phase = phase; stamp = stamp; log = [] } }
+    {
+        self.phase = phase;
+        self.stamp = stamp;
+        self.len = 0;
+    }
+
+    /// One store more.
+    fn log_store(&mut self, store: Store)
+        requires { length (lane_in self.old).log < log_limit }
+        ensures { lane_in self.new ≡ logging (lane_in self.old) store.line store.value }
+    {
+        let log = self.log().push(store).unwrap();
+        // Tried copy_from_slice: the checker lends no field beside an invariant, and a copied array costs speed.
+        for (place, store) in log.stores().iter().enumerate() {
+            self.stores[place] = *store;
+        }
+        self.len = log.len();
     }
 }
 
@@ -44,47 +85,49 @@ impl Tables {
     pub fn warps(&self) -> usize
         ensures { result ≡ length (lanes self.now) }
     {
-        self.warps
+        self.rows.len()
+    }
+
+    /// A warp's row, if it has one.
+    fn row(&self, warp: u32) -> Option<&Row>
+        ensures { MatchOption result (lane self.now warp ≡ idle_at 0) (λ row. lane_in row.now ≡ lane self.now warp) }
+    {
+        self.rows.get(warp as usize)
     }
 
     /// What a warp is doing.
     pub fn phase(&self, warp: u32) -> Phase
         ensures { result ≡ (lane self.now warp).phase }
     {
-        let place = warp as usize;
-        if place >= self.warps {
-            return Phase::Idle;
-        }
-        self.rows[place].phase
+        self.row(warp).map_or(Phase::Idle, |row| row.phase)
     }
 
     /// A warp's stamp.
     pub fn stamp(&self, warp: u32) -> u64
         ensures { result ≡ (lane self.now warp).stamp }
     {
-        let place = warp as usize;
-        if place >= self.warps {
-            return 0;
-        }
-        self.rows[place].stamp
+        self.row(warp).map_or(0, |row| row.stamp)
     }
 
     /// How many stores a warp has logged.
     pub fn stored(&self, warp: u32) -> usize
         ensures { result ≡ length (lane self.now warp).log }
     {
-        self.log(warp).len()
+        self.row(warp).map_or(0, |row| row.len)
     }
 
     /// A warp's log.
     pub fn log(&self, warp: u32) -> Log
         ensures { log_of result ≡ (lane self.now warp).log }
     {
-        let place = warp as usize;
-        if place >= self.warps {
-            return Log::new();
-        }
-        self.rows[place].log()
+        self.row(warp).map_or_else(Log::new, Row::log)
+    }
+
+    /// The first store of each line in a warp's log, in their order.
+    pub fn firsts(&self, warp: u32) -> Log
+        ensures { lines_in (log_of result) ≡ logged_lines (lane self.now warp).log }
+    {
+        self.row(warp).map_or_else(Log::new, Row::firsts)
     }
 
     /// A warp's request, if it has one.
@@ -123,15 +166,14 @@ impl Tables {
         let Phase::Waiting = self.phase(warp) else {
             return None;
         };
-        let Some(request) = self.queue.request_of(warp) else {
-            return None;
-        };
+        let request = self.request(warp)?;
         if request.line != line {
             return None;
         }
         Some(request.access)
     }
 
+    // That a warp does not wait holds between two calls only, so each call asks for it, and no type keeps it.
     /// Sets what a warp is doing and its stamp, with an empty log.
     fn start(&mut self, warp: u32, phase: Phase, stamp: u64)
         requires { is_waiting (lane self.old warp).phase ≡ false }
@@ -139,11 +181,8 @@ impl Tables {
             ≡ slice_set (lanes self.old) warp (record { phase = phase; stamp = stamp; log = [] }) }
         ensures queue { queued self.new ≡ queued self.old }
     {
-        let place = warp as usize;
-        if place < self.warps {
-            self.rows[place].phase = phase;
-            self.rows[place].stamp = stamp;
-            self.rows[place].len = 0;
+        if let Some(row) = self.rows.get_mut(warp as usize) {
+            row.start(phase, stamp);
         }
     }
 
@@ -167,6 +206,18 @@ impl Tables {
         self.start(warp, Phase::Idle, stamp);
     }
 
+    /// Sets what a warp is doing.
+    fn enter(&mut self, warp: u32, phase: Phase)
+        requires { is_some (request_of (queued self.old) warp) ≡ false }
+        ensures lanes { lanes self.new
+            ≡ slice_set (lanes self.old) warp (in_phase (lane self.old warp) phase) }
+        ensures queue { queued self.new ≡ queued self.old }
+    {
+        if let Some(row) = self.rows.get_mut(warp as usize) {
+            row.enter(phase);
+        }
+    }
+
     /// Lets a warp go on.
     pub fn resume(&mut self, warp: u32)
         requires { is_waiting (lane self.old warp).phase ≡ false }
@@ -174,10 +225,7 @@ impl Tables {
             ≡ slice_set (lanes self.old) warp (in_phase (lane self.old warp) Open) }
         ensures queue { queued self.new ≡ queued self.old }
     {
-        let place = warp as usize;
-        if place < self.warps {
-            self.rows[place].phase = Phase::Open;
-        }
+        self.enter(warp, Phase::Open);
     }
 
     /// Logs a store.
@@ -188,14 +236,8 @@ impl Tables {
             (logging (lane self.old warp) store.line store.value) }
         ensures queue { queued self.new ≡ queued self.old }
     {
-        let Some(log) = self.log(warp).push(store) else {
-            return;
-        };
-        let place = warp as usize;
-        if place < self.warps {
-            let stores = log.stores;
-            self.rows[place].len = log.len;
-            self.rows[place].stores = stores;
+        if let Some(row) = self.rows.get_mut(warp as usize) {
+            row.log_store(store);
         }
     }
 
@@ -208,10 +250,8 @@ impl Tables {
             (in_phase (lane self.old request.warp) Waiting) }
         ensures queue { queued self.new ≡ queued self.old ++ request ∷ [] }
     {
-        let place = request.warp as usize;
-        let queue = self.queue.push(request);
-        self.rows[place].phase = Phase::Waiting;
-        self.queue = queue;
+        self.enter(request.warp, Phase::Waiting);
+        self.queue.push(request);
     }
 
     /// A request comes out: it leaves the queue, and its warp has an outcome to fetch.
@@ -220,11 +260,7 @@ impl Tables {
             (in_phase (lane self.old warp) (Settled outcome)) }
         ensures queue { queued self.new ≡ without (queued self.old) warp }
     {
-        let place = warp as usize;
-        let queue = self.queue.without(warp);
-        self.queue = queue;
-        if place < self.warps {
-            self.rows[place].phase = Phase::Settled { outcome };
-        }
+        self.queue.take_out(warp);
+        self.enter(warp, Phase::Settled { outcome });
     }
 }

@@ -1,10 +1,11 @@
 -- The lines so far are listed, each once.
 use Rattle.std.proofs.Common.{◌≡◌, ◌≤◌, length, take}
 use Rattle.rules.specs.Lists.{distinct}
-use Rattle.tables.specs.Lists.{few, lines_waited}
+use Rattle.tables.specs.Lists.{lines_waited}
 use Rattle.tables.proofs.queue.Queue.count_lines.Given as goal
 
-abbrev pub invariant-loop-place : goal.invariant-loop-place
-invariant-loop-place l =
-    (few l.lines ≡ distinct (lines_waited (take l.place l.self.places))) ×
-    (length (few l.lines) ≤ l.place)
+abbrev pub invariant-loop-request : goal.invariant-loop-request
+invariant-loop-request l = record {
+  listed : l.lines.items ≡ distinct (lines_waited (take l.request-index l.request-items));
+  few : length l.lines.items ≤ l.request-index;
+}

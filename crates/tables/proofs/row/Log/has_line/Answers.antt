@@ -1,39 +1,14 @@
--- The search ends at a store of the line, goes on past another, and ends where nothing is left.
-use Rattle.std.proofs.Common.{◌≡◌, length, sym, refl, ◌∙◌, arith}
-use Rattle.tables.specs.Rows.{logged, lines_in}
-use Rattle.tables.proofs.Loops.{line_at, lines_length, has_here, has_later, has_nowhere}
+-- The search through the stores.
+use Rattle.std.proofs.Common.{eqb, ◌∙◌, rules, tests}
+use Rattle.std.proofs.lemmas.Iterator.{YieldsList-from_slice}
+use Rattle.std.proofs.lemmas.Iterator.Search.{any_from_yields_List}
+use Rattle.tables.specs.declared.row.Store.{Store}
+use Rattle.tables.proofs.Words.{line_found}
 use Rattle.tables.proofs.row.Log.has_line.Goals as goal
-
-pub returns-then-store-line : goal.returns-then-store-line
-returns-then-store-line c =
-    let f = c.args.self.now in
-    let size = f.size in
-    let room = f.room in
-    let i = c.loop-place.place in
-    let long : length (lines_in (logged f.len f.stores))
-    ≡ f.len = lines_length f.stores f.len (omega arith) in
-    sym (has_here (lines_in (logged f.len f.stores)) _ i c.loop-place.invariant (omega arith)
-    (line_at f.stores f.len i _ c.index-self-place.result (omega arith) (omega arith) refl
-    ∙ c.if-store-line.true))
-
-pub loop-place-preserved : goal.loop-place-preserved
-loop-place-preserved c =
-    let f = c.args.self.now in
-    let size = f.size in
-    let room = f.room in
-    let i = c.loop-place.place in
-    let long : length (lines_in (logged f.len f.stores))
-    ≡ f.len = lines_length f.stores f.len (omega arith) in
-    has_later (lines_in (logged f.len f.stores)) _ i c.loop-place.invariant (omega arith)
-    (λ e. c.if-store-line.false
-    (sym (line_at f.stores f.len i _ c.index-self-place.result (omega arith) (omega arith) refl) ∙ e))
 
 pub returns : goal.returns
 returns c =
-    let f = c.args.self.now in
-    let size = f.size in
-    let room = f.room in
-    let long : length (lines_in (logged f.len f.stores))
-    ≡ f.len = lines_length f.stores f.len (omega arith) in
-    sym (has_nowhere (lines_in (logged f.len f.stores)) _ c.loop-place.place c.loop-place.invariant
-    (omega arith))
+    let stores = c.args.self.now.stores.items in
+    any_from_yields_List (λ (s : Store). eqb s.line c.args.line) _ _ c.any.result c.any.ensures.ran
+    (YieldsList-from_slice stores cc) (λ x b q k. search (rules, tests))
+    ∙ line_found stores c.args.line

@@ -1,43 +1,14 @@
--- The row of a warp that does not wait may be written: no request is its own.
-use Rattle.std.proofs.Common.{refl, ◌∙◌, arith}
-use Rattle.std.proofs.lemmas.List.{length-set}
-use Rattle.tables.specs.Lists.{places}
-use Rattle.tables.proofs.Fitting.{no_request_of, sound_set, row_waits}
-use Rattle.tables.proofs.Lanes.{lanes_started, lanes_set_past}
+-- The row of a warp that does not wait may change: it has no request.
+use Rattle.tables.proofs.Fitting.{free, row_set}
+use Rattle.tables.proofs.Lanes.{lanes_set}
 use Rattle.tables.proofs.state.Tables.start.Goals as goal
 
-pub invariant_of-self-then-place-self-3 : goal.invariant_of-self-then-place-self-3
-invariant_of-self-then-place-self-3 c =
+pub invariant_of-self : goal.invariant_of-self
+invariant_of-self c =
     let t = c.args.self.now in
-    let table = t.table in
-    let count = t.count in
-    let w = c.args.warp in
-    let q = places t.queue in
-    let free = row_waits t.warps t.rows w _ (omega arith) (omega arith) c.requires in
-    let none = no_request_of t.rows q w t.sound free in
-    record {
-      table = length-set _ w _ ∙ length-set _ w _ ∙ length-set t.rows w _ ∙ table;
-      count = count;
-      sound = sound_set _ q w _ (sound_set _ q w _ (sound_set t.rows q w _ t.sound none) none) none;
-    }
+    let set = row_set t c.args.warp c.start.new.self (free t c.args.warp c.requires) in
+    record { count = set.0; sound = set.1 }
 
-pub returns-then-place-self : goal.returns-then-place-self
-returns-then-place-self c =
-    let t = c.args.self.now in
-    let table = t.table in
-    let count = t.count in
-    record {
-      lanes = lanes_started t.warps t.rows c.args.warp _ _ _ _ _ c.args.phase c.args.stamp
-          (omega arith) refl refl refl refl refl refl;
-      queue = refl;
-    }
-
-pub returns-else-place-self : goal.returns-else-place-self
-returns-else-place-self c =
-    let t = c.args.self.now in
-    let table = t.table in
-    let count = t.count in
-    record {
-      lanes = lanes_set_past t.warps t.rows c.args.warp _ (omega arith) (omega arith);
-      queue = refl;
-    }
+pub returns-in-Some-clause-lanes : goal.returns-in-Some-clause-lanes
+returns-in-Some-clause-lanes c =
+    lanes_set c.args.self.now.rows.items c.args.warp c.start.new.self _ c.start.ensures

@@ -2,7 +2,7 @@
 use Rattle.std.proofs.Common.{◌≡◌, ℕ, Bool, true, false, cond, ltb, List, set, Some, None, Option, sym, refl, ap, ◌∙◌, subst}
 use Rattle.protocol.specs.Answers.{answer_of}
 use Rattle.protocol.specs.declared.answer.Answer.{Answer}
-use Rattle.protocol.specs.declared.answer.Answer.TheVariants.{Ok, Val, Wait, Gone}
+use Rattle.protocol.specs.declared.answer.Answer.TheVariants.{Wait, Gone}
 use Rattle.protocol.specs.declared.answer.Cause.{Cause}
 use Rattle.protocol.specs.declared.answer.Cause.TheVariants.{WrittenLater, ReadLater, QueueFull, NoSlot}
 use Rattle.protocol.specs.declared.answer.Outcome.{Outcome}
@@ -81,14 +81,16 @@ module _ {k : Kind} (m : Machine k) (w : ℕ) where
         (accesses (product k) m w line access).answer
 
     pub by_verdict :
-        (after : Machine k) (answer : Answer) (v : Verdict) (facts : Told) (time : Time)
-        → facts ≡ told k m.book line → time ≡ time_of m w → v ≡ decide access facts time false
+        (after : Machine k) (answer : Answer) (v : Verdict) (wanted : Access) (facts : Told) (time : Time) (full : Bool)
+        → wanted ≡ access → facts ≡ told k m.book line → time ≡ time_of m w → full ≡ false
+        → v ≡ decide wanted facts time full
         → By after answer (if_full (is_full 4 4 m.queue line) (lane_of m w).stamp v) → Done after answer
-    by_verdict after answer v facts time f t e by =
+    by_verdict after answer v wanted facts time none a f t n e by =
         let here = told k m.book line in
         let full = is_full 4 4 m.queue line in
         let is : v ≡ decide access here (time_of m w) false =
-        e ∙ ap (λ x. decide access x time false) f ∙ ap (λ x. decide access here x false) t in
+        e ∙ ap (λ x. decide x facts time none) a ∙ ap (decide access facts time) n
+        ∙ ap (λ x. decide access x time false) f ∙ ap (λ x. decide access here x false) t in
         subst (λ x. By after answer x)
         (ap (if_full full (lane_of m w).stamp) is ∙ sym (decide_full access here (time_of m w) full)) by
 
@@ -140,23 +142,18 @@ module _ {k : Kind} (m : Machine k) (w : ℕ) where
   abbrev resumes_it : List Lane → List Lane
   resumes_it ls = set ls w (in_phase (lane_of m w) Open)
 
-  pub fetched_value :
-      (lanes : List Lane) (queue : List Request) (value : ℕ) (outcome : Outcome) → outcome ≡ Value value
-      → lanes ≡ resumes_it m.lanes → queue ≡ m.queue
-      → Fetched (built m.lines m.book lanes queue) (Val value) outcome
+  -- Neither a value nor a store ends the transaction.
+  pub fetched_on :
+      (lanes : List Lane) (queue : List Request) (answer : Answer) (outcome : Outcome)
+      → ((cause : Cause) (next : ℕ) → outcome ≡ LostOut cause next → ⊥)
+      → lanes ≡ resumes_it m.lanes → queue ≡ m.queue → answer ≡ answer_of outcome
+      → Fetched (built m.lines m.book lanes queue) answer outcome
   unfolding fetched
-  fetched_value lanes queue value outcome is a b =
-      subst (λ o. Fetched (built m.lines m.book lanes queue) (Val value) o) (sym is)
-      (record { machine = then_tables m m lanes queue resumes_it (λ q. q) refl a b; says = refl })
-
-  pub fetched_store :
-      (lanes : List Lane) (queue : List Request) (outcome : Outcome) → outcome ≡ Stored
-      → lanes ≡ resumes_it m.lanes → queue ≡ m.queue
-      → Fetched (built m.lines m.book lanes queue) Ok outcome
-  unfolding fetched
-  fetched_store lanes queue outcome is a b =
-      subst (λ o. Fetched (built m.lines m.book lanes queue) Ok o) (sym is)
-      (record { machine = then_tables m m lanes queue resumes_it (λ q. q) refl a b; says = refl })
+  fetched_on lanes queue answer (Value value) not a b says =
+      record { machine = then_tables m m lanes queue resumes_it (λ q. q) refl a b; says = says }
+  fetched_on lanes queue answer Stored not a b says =
+      record { machine = then_tables m m lanes queue resumes_it (λ q. q) refl a b; says = says }
+  fetched_on lanes queue answer (LostOut cause next) not a b says = absurd (not cause next refl)
 
   pub fetched_gone :
       (after : Machine k) (answer : Answer) (cause : Cause) (next : ℕ) (outcome : Outcome)

@@ -1,5 +1,3 @@
-mod Folds
-mod Firsts
 mod Served
 mod Turning
 mod Ended

@@ -1,5 +1,5 @@
 -- Tries, turns and the end of a transaction, by the machine alone: what has come out does not matter.
-use Rattle.std.proofs.Common.{◌≡◌, ℕ, false, cond, ltb, List, [], ◌∷◌, map, length, Some, None, fold, Option, sym, refl, ap, ◌∙◌, arith}
+use Rattle.std.proofs.Common.{◌≡◌, ℕ, Bool, false, cond, ltb, List, [], ◌∷◌, map, length, Some, None, fold, Option, sym, refl, ap, ◌∙◌, arith}
 use Rattle.std.proofs.lemmas.List.{nil_from_length}
 use Rattle.std.proofs.lemmas.Bool.{ltb-false}
 use Rattle.protocol.specs.declared.answer.Cause.{Cause}
@@ -125,9 +125,10 @@ module _ {k : Kind} where
 
     -- The verdict on what the book tells, at the warp's time.
     pub verdict_here :
-        (access : Access) (v : Verdict) (facts : Told) (time : Time) → facts ≡ told k m.book line
-        → time ≡ time_of m w
-        → v ≡ retried access facts time false
+        (access : Access) (v : Verdict) (wanted : Access) (facts : Told) (time : Time) (full : Bool)
+        → wanted ≡ access → facts ≡ told k m.book line → time ≡ time_of m w → full ≡ false
+        → v ≡ retried wanted facts time full
         → v ≡ retried access (told k m.book line) (time_of m w) false
-    verdict_here access v facts time f t e =
-        e ∙ ap (λ x. retried access x time false) f ∙ ap (λ x. retried access (told k m.book line) x false) t
+    verdict_here access v wanted facts time full a f t n e =
+        e ∙ ap (λ x. retried x facts time full) a ∙ ap (retried access facts time) n
+        ∙ ap (λ x. retried access x time false) f ∙ ap (λ x. retried access (told k m.book line) x false) t

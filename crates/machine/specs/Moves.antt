@@ -1,5 +1,5 @@
 -- The tries and the end of a transaction, by the machine that they leave.
-use Rattle.std.specs.Prelude.{ℕ, Bool, cond, List, [], ◌∷◌, ◌++◌, length, Some, None, Ok, Err, fold, Option, Result, nat_le, nat_lt, slice_index}
+use Rattle.std.specs.Prelude.{ℕ, Bool, cond, List, [], ◌∷◌, ◌++◌, length, Some, None, Ok, Err, fold, Option, Result, nat_le, nat_lt}
 use Rattle.std.specs.Option.{unwrap_or, option_or}
 use Rattle.protocol.specs.declared.answer.Answer.{Answer}
 use Rattle.protocol.specs.declared.answer.Answer.TheVariants.{No}
@@ -23,11 +23,6 @@ use Rattle.rules.specs.Steps.{Step, accessed, step}
 use Rattle.rules.specs.Serving.{memory_value, serves}
 use Rattle.rules.specs.Refusals.{unless, faulty}
 use Rattle.rules.specs.Refusals.{phase_refuses, number_fault}
-use Rattle.tables.specs.Rows.{is_first}
-
--- The number at a place, unless it stands at an earlier one too.
-abbrev pub new_at : List ℕ → ℕ → List ℕ
-new_at ns place = cond (is_first ns place) (slice_index ns place ∷ []) []
 
 -- What becomes of a request that would wait: if the queue is full for its line, its transaction is lost at its own
 -- stamp.

@@ -1,6 +1,6 @@
 -- What is told of a line, and what becomes of an access, as the rules say it.
 use Rattle.rules.specs.Access.{Told as Facts, Verdict as Ruling, own_line, lost, must_wait, go_on}
-use Rattle.machine.specs.declared.verdict.Told.{Told}
+use Rattle.book.specs.declared.record.Told.{Told}
 use Rattle.machine.specs.declared.verdict.Verdict.{Verdict}
 use Rattle.machine.specs.declared.verdict.Verdict.TheVariants.{OwnLine, Lost, MustWait, GoOn}
 

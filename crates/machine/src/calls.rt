@@ -13,27 +13,35 @@ use memory::store::Memory;
 use protocol::answer::Answer;
 use protocol::call::{Call, Op};
 use protocol::fault::Fault;
-use rules::state::Access;
+use rules::state::{Access, Request};
 
 impl<M: Memory, B: Book> Machine<M, B> {
     /// A call that is not refused.
-    fn grant(&mut self, warp: u32, op: Op) -> Answer
-        requires { fault_of (state M.Memory.at B.Book.kind B.Book.model self.old)
-            (record { warp = warp; op = op }) ≡ None }
+    fn grant(&mut self, call: Call) -> Answer
+        requires { fault_of (state M.Memory.at B.Book.kind B.Book.model self.old) call ≡ None }
         ensures after { state M.Memory.at B.Book.kind B.Book.model self.new
             ≡ (granted (product B.Book.kind)
-            (state M.Memory.at B.Book.kind B.Book.model self.old) warp op).machine }
+            (state M.Memory.at B.Book.kind B.Book.model self.old) call.warp call.op).machine }
         ensures answer { result
             ≡ (granted (product B.Book.kind)
-            (state M.Memory.at B.Book.kind B.Book.model self.old) warp op).answer }
+            (state M.Memory.at B.Book.kind B.Book.model self.old) call.warp call.op).answer }
     {
+        let Call { warp, op } = call;
         match op {
             Op::Begin => {
                 self.tables.open(warp);
                 Answer::Ok
             }
-            Op::Load { line } => self.access(warp, line, Access::Read),
-            Op::Store { line, value } => self.access(warp, line, Access::Write { value }),
+            Op::Load { line } => self.access(Request {
+                warp,
+                line,
+                access: Access::Read,
+            }),
+            Op::Store { line, value } => self.access(Request {
+                warp,
+                line,
+                access: Access::Write { value },
+            }),
             Op::Commit => {
                 let stamp = self.tables.stamp(warp);
                 self.write_back(warp);
@@ -60,7 +68,7 @@ impl<M: Memory, B: Book> Machine<M, B> {
         ensures unchanged { OnErr result (self.new ≡ self.old) }
     {
         self.check(call)?;
-        Ok(self.grant(call.warp, call.op))
+        Ok(self.grant(call))
     }
 
     /// Makes a call; a refusal is an answer too.
@@ -72,10 +80,7 @@ impl<M: Memory, B: Book> Machine<M, B> {
             ≡ (step (product B.Book.kind) (state M.Memory.at B.Book.kind B.Book.model self.old)
             call).answer }
     {
-        match self.request(call) {
-            Ok(answer) => answer,
-            Err(fault) => Answer::No { fault },
-        }
+        self.request(call).unwrap_or_else(Answer::from)
     }
 
     /// Opens a transaction.

@@ -1,39 +1,28 @@
 //! The end of a transaction: all its lines are released first, then the requests that wait for them are tried.
-ghost use Rattle.std.specs.Prelude.{◌≡◌, ◌<◌, false, length, fold};
+ghost use Rattle.std.specs.Prelude.{◌≡◌, false, map, fold};
 ghost use Rattle.rules.specs.Queue.{product};
 ghost use Rattle.rules.specs.State.{is_waiting};
-ghost use Rattle.rules.specs.Ending.{ends, logged_lines};
+ghost use Rattle.rules.specs.Ending.{ends};
 ghost use Rattle.tables.specs.Pages.{lane};
-ghost use Rattle.tables.specs.Rows.{log_of, lines_in};
+ghost use Rattle.tables.specs.Rows.{pair_of, lines_in};
 ghost use Rattle.machine.specs.Meaning.{state};
-ghost use Rattle.machine.specs.Moves.{new_at, wake_at};
+ghost use Rattle.machine.specs.Moves.{wake_at};
 
 use crate::state::Machine;
 use book::record::Book;
 use memory::store::Memory;
-use tables::row::Log;
+use tables::row::Store;
 
 impl<M: Memory, B: Book> Machine<M, B> {
-    /// Tries the requests that wait for the line of the store at a place, unless an earlier store is of that line.
-    fn wake_first(&mut self, stores: &Log, place: usize)
-        requires { place < length (log_of stores.now) }
+    // Of the shape of `release_all`: with the call as a closure, its contract would say the same of the closure.
+    /// Tries the requests that wait for the lines of some stores, line by line.
+    fn wake_all(&mut self, stores: &[Store])
         ensures { state M.Memory.at B.Book.kind B.Book.model self.new
             ≡ fold wake_at (state M.Memory.at B.Book.kind B.Book.model self.old)
-            (new_at (lines_in (log_of stores.now)) place) }
+            (lines_in (map pair_of stores.now)) }
     {
-        if stores.is_first(place) {
-            self.wake(stores.at(place).line);
-        }
-    }
-
-    /// Tries the requests that wait for the lines of some stores, each line once, line by line.
-    fn wake_all(&mut self, stores: &Log)
-        ensures { state M.Memory.at B.Book.kind B.Book.model self.new
-            ≡ fold wake_at (state M.Memory.at B.Book.kind B.Book.model self.old)
-            (logged_lines (log_of stores.now)) }
-    {
-        for place in 0..stores.len() {
-            self.wake_first(stores, place);
+        for store in stores {
+            self.wake(store.line);
         }
     }
 
@@ -44,9 +33,10 @@ impl<M: Memory, B: Book> Machine<M, B> {
             ≡ (ends (product B.Book.kind) (state M.Memory.at B.Book.kind B.Book.model self.old)
             warp stamp).machine }
     {
-        let log = self.tables.log(warp);
-        self.release_all(&log);
+        let firsts = self.tables.firsts(warp);
+        let stores = firsts.stores();
+        self.release_all(stores);
         self.tables.rest(warp, stamp);
-        self.wake_all(&log);
+        self.wake_all(stores);
     }
 }

@@ -1,6 +1,8 @@
 //! The making call.
-ghost use Rattle.std.specs.Prelude.{◌≡◌};
-ghost use Rattle.rules.specs.Making.{make as new_machine, making_fault, first_late};
+ghost use Rattle.std.specs.Prelude.{◌≡◌, nat_lt};
+ghost use Rattle.std.specs.List.{find};
+ghost use Rattle.protocol.specs.Limits.{last_stamp};
+ghost use Rattle.rules.specs.Making.{make as new_machine, making_fault};
 ghost use Rattle.machine.specs.Meaning.{state};
 ghost use Rattle.machine.specs.Moves.{passed};
 ghost use Rattle.machine.specs.Making.{count_fault, stamp_fault};
@@ -14,14 +16,9 @@ use tables::state::Tables;
 
 /// The first of some stamps that lies past the end of the clock.
 fn first_late(stamps: &[u32]) -> Option<u32>
-    ensures { result ≡ first_late stamps.now }
+    ensures { result ≡ find (λ stamp. nat_lt last_stamp stamp) stamps.now }
 {
-    for stamp in stamps {
-        if *stamp > LAST_STAMP {
-            return Some(*stamp);
-        }
-    }
-    None
+    stamps.iter().copied().find(|stamp| *stamp > LAST_STAMP)
 }
 
 /// Too few or too many warps.
@@ -35,6 +32,7 @@ fn check_count(count: usize) -> Result<(), Fault>
 }
 
 /// A first stamp past the end of the clock, or a book that is not new.
+#[tactic(auto, using(crate::proofs::Stamps::found_late))]
 fn check_stamps(stamps: &[u32], latest: u32) -> Result<(), Fault>
     ensures { result ≡ stamp_fault stamps.now latest }
 {
@@ -57,38 +55,21 @@ fn check_shape<B: Book>(book: &B, stamps: &[u32]) -> Result<(), Fault>
 }
 
 impl<M: Memory, B: Book> Machine<M, B> {
-    /// Makes a machine of idle warps at their first stamps. A machine made from a refused shape has no warps, so
-    /// that it
-    /// refuses every call; the refusal comes with it.
+    /// Makes a machine of idle warps at their first stamps. A machine made from a refused shape has no warps, so that
+    /// it refuses every call; the refusal comes with it.
     pub fn make(memory: M, book: B, stamps: &[u32]) -> (Machine<M, B>, Result<(), Fault>)
         ensures machine { state M.Memory.at B.Book.kind B.Book.model result.0
             ≡ new_machine B.Book.kind (M.Memory.at memory) (B.Book.model book) stamps.now }
         ensures fault { result.1
             ≡ passed (making_fault B.Book.kind (B.Book.model book) stamps.now) }
     {
-        match check_shape(&book, stamps) {
-            Ok(()) => {
-                let tables = Tables::new(stamps);
-                (
-                    Machine {
-                        memory,
-                        book,
-                        tables,
-                    },
-                    Ok(()),
-                )
-            }
-            Err(fault) => {
-                let tables = Tables::empty();
-                (
-                    Machine {
-                        memory,
-                        book,
-                        tables,
-                    },
-                    Err(fault),
-                )
-            }
-        }
+        let shape = check_shape(&book, stamps);
+        let warps = if shape.is_ok() { stamps } else { &[] };
+        let machine = Machine {
+            memory,
+            book,
+            tables: Tables::new(warps),
+        };
+        (machine, shape)
     }
 }

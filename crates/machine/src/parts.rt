@@ -1,34 +1,25 @@
 //! What the machine asks of its memory and its book.
-ghost use Rattle.std.specs.Prelude.{◌≡◌, ◌<◌, [], ◌∷◌, length, slice_index_or};
+ghost use Rattle.std.specs.Prelude.{◌≡◌, [], ◌∷◌, map};
 ghost use Rattle.rules.specs.Access.{told};
 ghost use Rattle.rules.specs.State.{time_of};
 ghost use Rattle.rules.specs.Serving.{memory_value, reads};
-ghost use Rattle.rules.specs.Ending.{logged_lines};
 ghost use Rattle.rules.specs.Steps.{writes_back};
 ghost use Rattle.machine.specs.Meaning.{state};
-ghost use Rattle.machine.specs.Moves.{own_value, new_at, releasing, reserving, writing};
-ghost use Rattle.tables.specs.Rows.{log_of, lines_in};
+ghost use Rattle.machine.specs.Moves.{own_value, releasing, reserving, writing};
+ghost use Rattle.tables.specs.Rows.{pair_of, lines_in};
 ghost use Rattle.machine.specs.Verdicts.{told_as};
 
 use crate::state::Machine;
-use crate::verdict::Told;
-use book::record::Book;
+use book::record::{Book, Told};
 use memory::store::Memory;
-use protocol::limits::LAST_STAMP;
-use tables::row::Log;
+use tables::row::Store;
 
 impl<M: Memory, B: Book> Machine<M, B> {
     /// What the book tells of a line.
     pub(crate) fn told(&self, line: u32) -> Told
         ensures { told_as result ≡ told B.Book.kind (B.Book.model self.now.book) line }
     {
-        let told = self.book.told(line);
-        Told {
-            written: told.written,
-            read: told.read,
-            owner: told.owner,
-            slot: told.slot,
-        }
+        self.book.told(line)
     }
 
     /// The logical time of a warp's transaction.
@@ -43,21 +34,17 @@ impl<M: Memory, B: Book> Machine<M, B> {
         ensures { result ≡ memory_value (state M.Memory.at B.Book.kind B.Book.model self.now)
             line }
     {
-        match self.memory.read(line) {
-            Ok(value) => value,
-            Err(_) => 0,
-        }
+        self.memory.read(line).unwrap_or(0)
     }
 
+    // A warp and a line, as in the next two, and no request: what is wanted of the line makes no difference to them.
     /// The last value that a warp logged for a line; the line's value if it logged none.
     pub(crate) fn own_value(&self, warp: u32, line: u32) -> u32
         ensures { result ≡ own_value (state M.Memory.at B.Book.kind B.Book.model self.now) warp
             line }
     {
-        match self.tables.log(warp).latest(line) {
-            Some(value) => value,
-            None => self.memory_value(line),
-        }
+        let logged = self.tables.log(warp).latest(line);
+        logged.unwrap_or_else(|| self.memory_value(line))
     }
 
     /// Notes a read of a line.
@@ -65,23 +52,20 @@ impl<M: Memory, B: Book> Machine<M, B> {
         ensures { state M.Memory.at B.Book.kind B.Book.model self.new
             ≡ reads (state M.Memory.at B.Book.kind B.Book.model self.old) warp line }
     {
-        let stamp = self.tables.stamp(warp);
-        if stamp > u64::from(LAST_STAMP) {
-            return;
+        if let Ok(stamp) = u32::try_from(self.tables.stamp(warp)) {
+            let _ = self.book.note(line, (stamp, warp));
         }
-        let _ = self.book.note(line, (stamp as u32, warp));
     }
 
+    // Of the shape of `note`, but for the book's call: passed as a closure, its contract would say the call's again.
     /// Reserves a line for a warp's transaction.
     pub(crate) fn reserve(&mut self, warp: u32, line: u32)
         ensures { state M.Memory.at B.Book.kind B.Book.model self.new
             ≡ reserving (state M.Memory.at B.Book.kind B.Book.model self.old) warp line }
     {
-        let stamp = self.tables.stamp(warp);
-        if stamp > u64::from(LAST_STAMP) {
-            return;
+        if let Ok(stamp) = u32::try_from(self.tables.stamp(warp)) {
+            let _ = self.book.reserve(line, (stamp, warp));
         }
-        let _ = self.book.reserve(line, (stamp as u32, warp));
     }
 
     /// Releases a line, and tries nothing yet.
@@ -92,37 +76,22 @@ impl<M: Memory, B: Book> Machine<M, B> {
         let _ = self.book.release(line);
     }
 
-    /// Releases the line of the store at a place, unless an earlier store is of that line.
-    fn release_first(&mut self, stores: &Log, place: usize)
-        requires { place < length (log_of stores.now) }
+    /// Releases the lines of some stores, one after another.
+    pub(crate) fn release_all(&mut self, stores: &[Store])
         ensures { state M.Memory.at B.Book.kind B.Book.model self.new
             ≡ releasing (state M.Memory.at B.Book.kind B.Book.model self.old)
-            (new_at (lines_in (log_of stores.now)) place) }
+            (lines_in (map pair_of stores.now)) }
     {
-        if stores.is_first(place) {
-            self.release(stores.at(place).line);
+        for store in stores {
+            self.release(store.line);
         }
     }
 
-    /// Releases the lines of some stores, each once, one after another.
-    pub(crate) fn release_all(&mut self, stores: &Log)
+    /// Writes a store to memory.
+    fn write(&mut self, store: Store)
         ensures { state M.Memory.at B.Book.kind B.Book.model self.new
-            ≡ releasing (state M.Memory.at B.Book.kind B.Book.model self.old)
-            (logged_lines (log_of stores.now)) }
+            ≡ writing (state M.Memory.at B.Book.kind B.Book.model self.old) (pair_of store) }
     {
-        for place in 0..stores.len() {
-            self.release_first(stores, place);
-        }
-    }
-
-    /// Writes the store at a place of a log to memory.
-    fn write_at(&mut self, log: &Log, place: usize)
-        requires { place < length (log_of log.now) }
-        ensures { state M.Memory.at B.Book.kind B.Book.model self.new
-            ≡ writing (state M.Memory.at B.Book.kind B.Book.model self.old)
-            (slice_index_or (log_of log.now) place (0, 0)) }
-    {
-        let store = log.at(place);
         let _ = self.memory.write(store.line, store.value);
     }
 
@@ -132,8 +101,8 @@ impl<M: Memory, B: Book> Machine<M, B> {
             ≡ writes_back (state M.Memory.at B.Book.kind B.Book.model self.old) warp }
     {
         let log = self.tables.log(warp);
-        for place in 0..log.len() {
-            self.write_at(&log, place);
+        for store in log.stores() {
+            self.write(*store);
         }
     }
 }

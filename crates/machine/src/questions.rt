@@ -11,8 +11,7 @@ ghost use Rattle.machine.specs.Verdicts.{told_as};
 ghost use Rattle.machine.specs.Outcomes.{outcome_of};
 
 use crate::state::Machine;
-use crate::verdict::Told;
-use book::record::Book;
+use book::record::{Book, Told};
 use memory::store::Memory;
 use protocol::answer::Outcome;
 use protocol::fault::Fault;
@@ -26,9 +25,7 @@ fn outcome_of(phase: Phase) -> Option<Outcome>
 {
     match phase {
         Phase::Settled { outcome } => Some(outcome),
-        Phase::Idle => None,
-        Phase::Open => None,
-        Phase::Waiting => None,
+        Phase::Idle | Phase::Open | Phase::Waiting => None,
     }
 }
 

@@ -1,7 +1,7 @@
 //! Refusals, in the order of their numbers: the first is told.
 ghost use Rattle.std.specs.Prelude.{◌≡◌, length, nat_lt};
 ghost use Rattle.protocol.specs.declared.fault.Refusal.TheVariants.{NoSuchWarp, NoSuchLine, LogFull, ClockSpent};
-ghost use Rattle.rules.specs.Refusals.{idle_refuses, open_refuses, pending_refuses, phase_refuses};
+ghost use Rattle.rules.specs.Refusals.{phase_refuses};
 ghost use Rattle.rules.specs.Refusals.{faulty, unless, has_line, number_fault, fault_of};
 ghost use Rattle.tables.specs.Pages.{lanes, lane};
 ghost use Rattle.machine.specs.Meaning.{state};
@@ -15,57 +15,17 @@ use protocol::fault::{Fault, Refusal};
 use protocol::limits::{LAST_STAMP, LINES, STORES};
 use rules::state::Phase;
 
-/// What a warp may not ask for while it has no transaction.
-fn idle_refuses(op: Op) -> Option<Refusal>
-    ensures { result ≡ idle_refuses op }
-{
-    match op {
-        Op::Begin => None,
-        Op::Load { line: _ } => Some(Refusal::WarpIdle),
-        Op::Store { line: _, value: _ } => Some(Refusal::WarpIdle),
-        Op::Commit => Some(Refusal::WarpIdle),
-        Op::Drop => Some(Refusal::WarpIdle),
-        Op::Fetch => Some(Refusal::WarpIdle),
-    }
-}
-
-/// What a warp may not ask for while it may go on.
-fn open_refuses(op: Op) -> Option<Refusal>
-    ensures { result ≡ open_refuses op }
-{
-    match op {
-        Op::Begin => Some(Refusal::WarpNotIdle),
-        Op::Load { line: _ } => None,
-        Op::Store { line: _, value: _ } => None,
-        Op::Commit => None,
-        Op::Drop => None,
-        Op::Fetch => Some(Refusal::NothingToFetch),
-    }
-}
-
-/// What a warp may not ask for while an outcome is out.
-fn pending_refuses(op: Op) -> Option<Refusal>
-    ensures { result ≡ pending_refuses op }
-{
-    match op {
-        Op::Begin => Some(Refusal::WarpNotIdle),
-        Op::Load { line: _ } => Some(Refusal::OutcomePending),
-        Op::Store { line: _, value: _ } => Some(Refusal::OutcomePending),
-        Op::Commit => Some(Refusal::OutcomePending),
-        Op::Drop => Some(Refusal::OutcomePending),
-        Op::Fetch => None,
-    }
-}
-
 /// What a warp may not ask for in a phase.
 fn phase_refuses(phase: Phase, op: Op) -> Option<Refusal>
     ensures { result ≡ phase_refuses phase op }
 {
-    match phase {
-        Phase::Idle => idle_refuses(op),
-        Phase::Open => open_refuses(op),
-        Phase::Waiting => pending_refuses(op),
-        Phase::Settled { outcome: _ } => pending_refuses(op),
+    match (phase, op) {
+        (Phase::Idle, Op::Begin) => None,
+        (Phase::Idle, _) => Some(Refusal::WarpIdle),
+        (_, Op::Begin) => Some(Refusal::WarpNotIdle),
+        (Phase::Open, Op::Fetch) => Some(Refusal::NothingToFetch),
+        (Phase::Open, _) | (_, Op::Fetch) => None,
+        _ => Some(Refusal::OutcomePending),
     }
 }
 
@@ -80,12 +40,14 @@ impl<M: Memory, B: Book> Machine<M, B> {
         Ok(())
     }
 
+    // A match, since `map_or` would say what is good first and what is refused last.
     /// The warp may ask for this in its phase.
-    fn check_phase(&self, warp: u32, op: Op) -> Result<(), Fault>
-        ensures { result ≡ passed (faulty (phase_refuses (lane self.now.tables warp).phase op) warp) }
+    fn check_phase(&self, call: Call) -> Result<(), Fault>
+        ensures { result ≡ passed
+            (faulty (phase_refuses (lane self.now.tables call.warp).phase call.op) call.warp) }
     {
-        match phase_refuses(self.tables.phase(warp), op) {
-            Some(why) => Err(Fault::in_call(why, u64::from(warp))),
+        match phase_refuses(self.tables.phase(call.warp), call.op) {
+            Some(why) => Err(Fault::in_call(why, u64::from(call.warp))),
             None => Ok(()),
         }
     }
@@ -126,30 +88,28 @@ impl<M: Memory, B: Book> Machine<M, B> {
     }
 
     /// A line that is lacking, a full log, a clock that is spent.
-    fn check_number(&self, warp: u32, op: Op) -> Result<(), Fault>
+    fn check_number(&self, call: Call) -> Result<(), Fault>
         ensures { result ≡ passed
-            (number_fault (state M.Memory.at B.Book.kind B.Book.model self.now) warp op) }
+            (number_fault (state M.Memory.at B.Book.kind B.Book.model self.now) call.warp call.op) }
     {
-        match op {
-            Op::Begin => self.check_clock(warp),
+        match call.op {
+            Op::Begin => self.check_clock(call.warp),
             Op::Load { line } => self.check_line(line),
-            Op::Store { line, value: _ } => {
+            Op::Store { line, .. } => {
                 self.check_line(line)?;
-                self.check_room(warp)
+                self.check_room(call.warp)
             }
-            Op::Commit => Ok(()),
-            Op::Drop => Ok(()),
-            Op::Fetch => Ok(()),
+            Op::Commit | Op::Drop | Op::Fetch => Ok(()),
         }
     }
 
     /// The refusals of a warp that the machine has.
-    fn check_asked(&self, warp: u32, op: Op) -> Result<(), Fault>
+    fn check_asked(&self, call: Call) -> Result<(), Fault>
         ensures { result ≡ passed
-            (asked_fault (state M.Memory.at B.Book.kind B.Book.model self.now) warp op) }
+            (asked_fault (state M.Memory.at B.Book.kind B.Book.model self.now) call.warp call.op) }
     {
-        self.check_phase(warp, op)?;
-        self.check_number(warp, op)
+        self.check_phase(call)?;
+        self.check_number(call)
     }
 
     /// All refusals, in the order of their numbers.
@@ -158,6 +118,6 @@ impl<M: Memory, B: Book> Machine<M, B> {
             (fault_of (state M.Memory.at B.Book.kind B.Book.model self.now) call) }
     {
         self.check_warp(call.warp)?;
-        self.check_asked(call.warp, call.op)
+        self.check_asked(call)
     }
 }

@@ -45,8 +45,7 @@ pub fn run<M: Memory + Drop, B: Book + Drop>(
     let (mut machine, shape) = Machine::make(memory, book, stamps);
     let mut answers = Vec::new(heap);
     for call in calls {
-        let answer = machine.call(*call);
-        answers.push(answer)?;
+        answers.push(machine.call(*call))?;
     }
     Ok(Ran {
         machine,

@@ -1,35 +1,36 @@
 //! Loads and stores that go on, and the tries of those that waited.
-ghost use Rattle.std.specs.Prelude.{◌≡◌, ◌<◌, true, false, length, slice_index};
+ghost use Rattle.std.specs.Prelude.{◌≡◌, ◌<◌, true, false, length};
 ghost use Rattle.protocol.specs.Limits.{line_limit};
 ghost use Rattle.rules.specs.State.{is_waiting};
 ghost use Rattle.rules.specs.Serving.{serves, serves_own};
-ghost use Rattle.tables.specs.Lists.{few};
 ghost use Rattle.tables.specs.Pages.{lane, has_room};
 ghost use Rattle.machine.specs.Meaning.{state};
 ghost use Rattle.machine.specs.Moves.{coming_out, try_at, wake_at, comes_through};
 
 use crate::state::Machine;
-use crate::verdict::{Verdict, retried};
+use crate::verdict::Verdict;
 use book::record::Book;
 use memory::store::Memory;
 use protocol::answer::Outcome;
-use rules::state::Access;
-use tables::few::Few;
+use rules::state::{Access, Request};
 use tables::row::Store;
 
 impl<M: Memory, B: Book> Machine<M, B> {
+    // A line is a plain number in every rule: a type for those below the limit would put its field's name into each
+    // clause, in place of one condition.
     /// On a line that is nobody's: a load gives the memory's value, a store reserves the line.
-    pub(crate) fn serve(&mut self, warp: u32, line: u32, access: Access) -> Outcome
-        requires inside { line < line_limit }
-        requires free { is_waiting (lane self.old.tables warp).phase ≡ false }
-        requires room { has_room (lane self.old.tables warp) access ≡ true }
+    pub(crate) fn serve(&mut self, request: Request) -> Outcome
+        requires inside { request.line < line_limit }
+        requires free { is_waiting (lane self.old.tables request.warp).phase ≡ false }
+        requires room { has_room (lane self.old.tables request.warp) request.access ≡ true }
         ensures after { state M.Memory.at B.Book.kind B.Book.model self.new
-            ≡ (serves (state M.Memory.at B.Book.kind B.Book.model self.old) warp line
-            access).machine }
+            ≡ (serves (state M.Memory.at B.Book.kind B.Book.model self.old) request.warp
+            request.line request.access).machine }
         ensures answer { result
-            ≡ (serves (state M.Memory.at B.Book.kind B.Book.model self.old) warp line
-            access).outcome }
+            ≡ (serves (state M.Memory.at B.Book.kind B.Book.model self.old) request.warp
+            request.line request.access).outcome }
     {
+        let Request { warp, line, access } = request;
         match access {
             Access::Read => {
                 let value = self.memory_value(line);
@@ -44,18 +45,21 @@ impl<M: Memory, B: Book> Machine<M, B> {
         }
     }
 
+    // Of the shape of `serve`, but of another value and another call of the book: passed as closures, both would need
+    // contracts of their own, and the match would still be there.
     /// On the warp's own line: a load gives the last value that it logged there, a store is added to the count.
-    pub(crate) fn serve_own(&mut self, warp: u32, line: u32, access: Access) -> Outcome
-        requires inside { line < line_limit }
-        requires free { is_waiting (lane self.old.tables warp).phase ≡ false }
-        requires room { has_room (lane self.old.tables warp) access ≡ true }
+    pub(crate) fn serve_own(&mut self, request: Request) -> Outcome
+        requires inside { request.line < line_limit }
+        requires free { is_waiting (lane self.old.tables request.warp).phase ≡ false }
+        requires room { has_room (lane self.old.tables request.warp) request.access ≡ true }
         ensures after { state M.Memory.at B.Book.kind B.Book.model self.new
-            ≡ (serves_own (state M.Memory.at B.Book.kind B.Book.model self.old) warp line
-            access).machine }
+            ≡ (serves_own (state M.Memory.at B.Book.kind B.Book.model self.old) request.warp
+            request.line request.access).machine }
         ensures answer { result
-            ≡ (serves_own (state M.Memory.at B.Book.kind B.Book.model self.old) warp line
-            access).outcome }
+            ≡ (serves_own (state M.Memory.at B.Book.kind B.Book.model self.old) request.warp
+            request.line request.access).outcome }
     {
+        let Request { warp, line, access } = request;
         match access {
             Access::Read => {
                 let value = self.own_value(warp, line);
@@ -70,13 +74,17 @@ impl<M: Memory, B: Book> Machine<M, B> {
         }
     }
 
+    // Not `serve` with a step after it: the tables keep room for a store that waits, so it leaves the queue before it
+    // is logged.
     /// The same for a request that waited: its warp has the outcome to fetch.
-    fn serve_waiting(&mut self, warp: u32, line: u32, access: Access)
-        requires inside { line < line_limit }
-        requires room { has_room (lane self.old.tables warp) access ≡ true }
+    fn serve_waiting(&mut self, request: Request)
+        requires inside { request.line < line_limit }
+        requires room { has_room (lane self.old.tables request.warp) request.access ≡ true }
         ensures { state M.Memory.at B.Book.kind B.Book.model self.new
-            ≡ comes_through (state M.Memory.at B.Book.kind B.Book.model self.old) warp line access }
+            ≡ comes_through (state M.Memory.at B.Book.kind B.Book.model self.old) request.warp
+            request.line request.access }
     {
+        let Request { warp, line, access } = request;
         match access {
             Access::Read => {
                 let value = self.memory_value(line);
@@ -108,22 +116,12 @@ impl<M: Memory, B: Book> Machine<M, B> {
         let Some(access) = self.tables.pending(warp, line) else {
             return;
         };
-        match retried(access, self.told(line), self.time(warp), false) {
+        let request = Request { warp, line, access };
+        match self.meet(request).retried() {
             Verdict::Lost { cause, next } => self.come_out(warp, Outcome::Gone { cause, next }),
-            Verdict::GoOn => self.serve_waiting(warp, line, access),
+            Verdict::GoOn => self.serve_waiting(request),
             Verdict::OwnLine | Verdict::MustWait => {}
         }
-    }
-
-    /// The turn at a place of the order.
-    fn try_at(&mut self, line: u32, turns: Few, place: usize)
-        requires inside { line < line_limit }
-        requires within { place < length (few turns) }
-        ensures { state M.Memory.at B.Book.kind B.Book.model self.new
-            ≡ try_at line (state M.Memory.at B.Book.kind B.Book.model self.old)
-            (slice_index (few turns) place) }
-    {
-        self.try_turn(line, turns.at(place));
     }
 
     /// Every turn at a line.
@@ -136,8 +134,8 @@ impl<M: Memory, B: Book> Machine<M, B> {
             return;
         }
         let turns = self.tables.turns(line);
-        for place in 0..turns.len() {
-            self.try_at(line, turns, place);
+        for warp in turns.as_slice() {
+            self.try_turn(line, *warp);
         }
     }
 }

@@ -1,20 +1,11 @@
 //! The access steps: what a load or a store meets at its line. The first step that applies decides.
 ghost use Rattle.std.specs.Prelude.{◌≡◌};
-ghost use Rattle.book.specs.Time.{earlier};
-ghost use Rattle.rules.specs.Access.{stamp_past, unowned, by_owner, by_mark, retried, is_owner, decide};
+ghost use Rattle.rules.specs.Access.{stamp_past, unowned, by_owner, by_mark, retried, decide};
 ghost use Rattle.machine.specs.Verdicts.{told_as, verdict_as};
 
+use book::record::Told;
 use protocol::answer::Cause;
 use rules::state::Access;
-
-/// What the book tells of a line. A time is a pair of stamp and warp.
-#[derive(Clone, Copy)]
-pub struct Told {
-    pub written: u32,
-    pub read: (u32, u32),
-    pub owner: Option<u32>,
-    pub slot: bool,
-}
 
 /// What becomes of a load or a store.
 #[derive(Clone, Copy)]
@@ -29,111 +20,100 @@ pub enum Verdict {
     GoOn,
 }
 
-/// Whether a transaction's time comes before a read mark.
-fn comes_before(time: (u64, u32), mark: (u32, u32)) -> bool
-    ensures { result ≡ earlier time mark }
-{
-    let (stamp, warp) = time;
-    let (read, by) = mark;
-    stamp < u64::from(read) || (stamp == u64::from(read) && warp < by)
+/// What a load or a store meets at its line.
+#[derive(Clone, Copy)]
+pub struct Encounter {
+    pub access: Access,
+    /// What the book tells of the line.
+    pub told: Told,
+    /// The logical time of the transaction: a pair of stamp and warp.
+    pub time: (u64, u32),
+    /// Whether the queue has no room for one more request for the line.
+    pub full: bool,
 }
 
-/// The stamp after a loss to a later time: past the line's write stamp, and for a store past its read mark too.
-fn past(access: Access, told: Told) -> u64
-    ensures { result ≡ stamp_past access (told_as told) }
-{
-    match access {
-        Access::Read => u64::from(told.written) + 1,
-        Access::Write { value: _ } => u64::from(told.written.max(told.read.0)) + 1,
-    }
-}
-
-/// The line is nobody's: a load goes on, a store too if the line has a slot.
-fn unowned(access: Access, told: Told, time: (u64, u32)) -> Verdict
-    ensures { verdict_as result ≡ unowned access (told_as told) time }
-{
-    match access {
-        Access::Read => Verdict::GoOn,
-        Access::Write { value: _ } => {
-            if told.slot {
-                Verdict::GoOn
-            } else {
-                Verdict::Lost {
-                    cause: Cause::NoSlot,
-                    next: time.0,
-                }
-            }
+impl Encounter {
+    /// All steps, in their order: first the warp's own line.
+    pub fn decide(self) -> Verdict
+        ensures { verdict_as result
+            ≡ decide self.access (told_as self.told) self.time self.full }
+    {
+        let (_, warp) = self.time;
+        match self.told.owner {
+            Some(owner) if owner == warp => Verdict::OwnLine,
+            _ => self.retried(),
         }
     }
-}
 
-/// The line is another warp's: the request waits if the queue has room for it.
-fn by_owner(access: Access, told: Told, time: (u64, u32), full: bool) -> Verdict
-    ensures { verdict_as result ≡ by_owner told.owner access (told_as told) time full }
-{
-    match told.owner {
-        None => unowned(access, told, time),
-        Some(_) => {
-            if full {
-                Verdict::Lost {
-                    cause: Cause::QueueFull,
-                    next: time.0,
-                }
-            } else {
-                Verdict::MustWait
-            }
+    /// Nothing comes before a write that is logically later. A request that waited is tried from here on.
+    pub fn retried(self) -> Verdict
+        ensures { verdict_as result
+            ≡ retried self.access (told_as self.told) self.time self.full }
+    {
+        let (stamp, _) = self.time;
+        if stamp < u64::from(self.told.written) {
+            return Verdict::Lost {
+                cause: Cause::WrittenLater,
+                next: self.past(),
+            };
+        }
+        self.by_mark()
+    }
+
+    /// A store must not come before a read that is logically later.
+    fn by_mark(self) -> Verdict
+        ensures { verdict_as result
+            ≡ by_mark self.access (told_as self.told) self.time self.full }
+    {
+        let (read, by) = self.told.read;
+        match self.access {
+            Access::Write { .. } if self.time < (u64::from(read), by) => Verdict::Lost {
+                cause: Cause::ReadLater,
+                next: self.past(),
+            },
+            _ => self.by_owner(),
         }
     }
-}
 
-/// A store must not come before a read that is logically later.
-fn by_mark(access: Access, told: Told, time: (u64, u32), full: bool) -> Verdict
-    ensures { verdict_as result ≡ by_mark access (told_as told) time full }
-{
-    match access {
-        Access::Read => by_owner(access, told, time, full),
-        Access::Write { value: _ } => {
-            if comes_before(time, told.read) {
-                Verdict::Lost {
-                    cause: Cause::ReadLater,
-                    next: past(access, told),
-                }
-            } else {
-                by_owner(access, told, time, full)
-            }
+    /// The line is another warp's: the request waits if the queue has room for it.
+    fn by_owner(self) -> Verdict
+        ensures { verdict_as result
+            ≡ by_owner self.told.owner self.access (told_as self.told) self.time self.full }
+    {
+        let (stamp, _) = self.time;
+        match self.told.owner {
+            Some(_) if self.full => Verdict::Lost {
+                cause: Cause::QueueFull,
+                next: stamp,
+            },
+            Some(_) => Verdict::MustWait,
+            None => self.unowned(),
         }
     }
-}
 
-/// Nothing comes before a write that is logically later. A request that waited is tried from here on.
-pub fn retried(access: Access, told: Told, time: (u64, u32), full: bool) -> Verdict
-    ensures { verdict_as result ≡ retried access (told_as told) time full }
-{
-    if time.0 < u64::from(told.written) {
-        return Verdict::Lost {
-            cause: Cause::WrittenLater,
-            next: past(access, told),
+    /// The line is nobody's: a load goes on, a store too if the line has a slot.
+    fn unowned(self) -> Verdict
+        ensures { verdict_as result ≡ unowned self.access (told_as self.told) self.time }
+    {
+        let (stamp, _) = self.time;
+        match self.access {
+            Access::Write { .. } if !self.told.slot => Verdict::Lost {
+                cause: Cause::NoSlot,
+                next: stamp,
+            },
+            _ => Verdict::GoOn,
+        }
+    }
+
+    /// The stamp after a loss to a later time: past the line's write stamp, and for a store past its read mark too.
+    fn past(self) -> u64
+        ensures { result ≡ stamp_past self.access (told_as self.told) }
+    {
+        let (read, _) = self.told.read;
+        let latest = match self.access {
+            Access::Read => self.told.written,
+            Access::Write { .. } => self.told.written.max(read),
         };
-    }
-    by_mark(access, told, time, full)
-}
-
-/// All steps, in their order: first the warp's own line.
-pub fn decide(access: Access, told: Told, time: (u64, u32), full: bool) -> Verdict
-    ensures { verdict_as result ≡ decide access (told_as told) time full }
-{
-    if is_owner(told.owner, time.1) {
-        return Verdict::OwnLine;
-    }
-    retried(access, told, time, full)
-}
-
-/// Whether the warp has the line reserved.
-fn is_owner(owner: Option<u32>, warp: u32) -> bool
-    ensures { result ≡ is_owner owner warp }
-{
-    match owner {
-        None => false,
-        Some(other) => other == warp,
+        u64::from(latest) + 1
     }
 }

@@ -1,8 +1,7 @@
 -- Released, at rest, and then woken.
-use Rattle.std.proofs.Common.{ap}
-use Rattle.rules.specs.Ending.{logged_lines}
+use Rattle.std.proofs.Common.{map, ap, ◌∙◌}
 use Rattle.tables.specs.Pages.{lanes, queued}
-use Rattle.tables.specs.Rows.{log_of}
+use Rattle.tables.specs.Rows.{pair_of, lines_in}
 use Rattle.machine.specs.Meaning.{state}
 use Rattle.machine.proofs.Ended.{ended_is}
 use Rattle.machine.proofs.state.Machine.end.Goals as goal
@@ -10,9 +9,9 @@ use Rattle.machine.proofs.state.Machine.end.Goals as goal
 pub returns : goal.returns
 returns g c =
     let m = state g.M.Memory.at g.B.Book.kind g.B.Book.model c.args.self.now in
+    let is = ap lines_in c.stores-stores.ensures.value ∙ c.firsts-firsts.ensures in
     ended_is m c.args.warp c.args.stamp
     (state g.M.Memory.at g.B.Book.kind g.B.Book.model c.release_all.new.self)
     (state g.M.Memory.at g.B.Book.kind g.B.Book.model c.wake_all.new.self)
-    (lanes c.rest.new.self) (queued c.rest.new.self) (logged_lines (log_of c.log-log.result))
-    (ap logged_lines c.log-log.ensures) c.release_all.ensures
-    c.rest.ensures.lanes c.rest.ensures.queue c.wake_all.ensures
+    (lanes c.rest.new.self) (queued c.rest.new.self) (lines_in (map pair_of c.stores-stores.result.now)) is
+    c.release_all.ensures c.rest.ensures.lanes c.rest.ensures.queue c.wake_all.ensures

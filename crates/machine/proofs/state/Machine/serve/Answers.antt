@@ -8,8 +8,8 @@ pub returns-in-Read : goal.returns-in-Read
 returns-in-Read g c =
     let m = state g.M.Memory.at g.B.Book.kind g.B.Book.model c.args.self.now in
     record {
-      after = read_served m c.args.warp c.args.line _ c.args.access c.in-Read.is c.note.ensures;
-      answer = read_value m c.args.warp c.args.line _ c.args.access c.in-Read.is
+      after = read_served m c.args.request.warp c.args.request.line _ c.args.request.access c.in-Read.is c.note.ensures;
+      answer = read_value m c.args.request.warp c.args.request.line _ c.args.request.access c.in-Read.is
           c.memory_value-value.ensures;
     }
 
@@ -17,14 +17,14 @@ pub returns-in-Write : goal.returns-in-Write
 returns-in-Write g c =
     let m = state g.M.Memory.at g.B.Book.kind g.B.Book.model c.args.self.now in
     let mid = state g.M.Memory.at g.B.Book.kind g.B.Book.model c.reserve.new.self in
-    let w = c.args.warp in
-    let line = c.args.line in
+    let w = c.args.request.warp in
+    let line = c.args.request.line in
     record {
-      after = write_served m w line mid (lanes c.log_store.new.self) _ c.in-Write.value c.args.access
+      after = write_served m w line mid (lanes c.log_store.new.self) _ c.in-Write.value c.args.request.access
           c.in-Write.is
           c.reserve.ensures
           (log_lanes m w line mid.lanes (lanes c.log_store.new.self) c.of.result c.in-Write.value
           c.of.ensures c.log_store.ensures.lanes)
           c.log_store.ensures.queue;
-      answer = write_stored m w line c.in-Write.value c.args.access c.in-Write.is;
+      answer = write_stored m w line c.in-Write.value c.args.request.access c.in-Write.is;
     }

@@ -8,22 +8,22 @@ pub returns-in-Read : goal.returns-in-Read
 returns-in-Read g c =
     let m = state g.M.Memory.at g.B.Book.kind g.B.Book.model c.args.self.now in
     record {
-      after = own_read_served m c.args.warp c.args.line _ c.args.access c.in-Read.is c.note.ensures;
-      answer = own_read_value m c.args.warp c.args.line _ c.args.access c.in-Read.is
+      after = own_read_served m c.args.request.warp c.args.request.line _ c.args.request.access c.in-Read.is c.note.ensures;
+      answer = own_read_value m c.args.request.warp c.args.request.line _ c.args.request.access c.in-Read.is
           c.own_value-value.ensures;
     }
 
 pub returns-in-Write : goal.returns-in-Write
 returns-in-Write g c =
     let m = state g.M.Memory.at g.B.Book.kind g.B.Book.model c.args.self.now in
-    let w = c.args.warp in
-    let line = c.args.line in
+    let w = c.args.request.warp in
+    let line = c.args.request.line in
     record {
       after = own_write_served m w line (g.B.Book.model c.add.new.self) (lanes c.log_store.new.self) _
-          c.in-Write.value c.args.access c.in-Write.is
+          c.in-Write.value c.args.request.access c.in-Write.is
           c.add.ensures.after
           (log_lanes m w line m.lanes (lanes c.log_store.new.self) c.of.result c.in-Write.value
           c.of.ensures c.log_store.ensures.lanes)
           c.log_store.ensures.queue;
-      answer = own_write_stored m w line c.in-Write.value c.args.access c.in-Write.is;
+      answer = own_write_stored m w line c.in-Write.value c.args.request.access c.in-Write.is;
     }

@@ -19,7 +19,8 @@ returns-in-Lost g c =
     c.come_out.ensures
     ∙ tried_lost m w line access c.in-Lost.cause c.in-Lost.next
     ∙ try_by m w line access _ c.in-Some.ensures.value
-    (verdict_here m w line access _ _ _ c.told.ensures c.time.ensures c.in-Lost.ensures)
+    (verdict_here m w line access _ _ _ _ _ c.meet.ensures.access c.meet.ensures.told
+    c.meet.ensures.time c.meet.ensures.full c.in-Lost.ensures)
 
 pub returns-in-GoOn : goal.returns-in-GoOn
 returns-in-GoOn g c =
@@ -30,7 +31,8 @@ returns-in-GoOn g c =
     c.serve_waiting.ensures
     ∙ tried_on m w line access
     ∙ try_by m w line access _ c.in-Some.ensures.value
-    (verdict_here m w line access _ _ _ c.told.ensures c.time.ensures c.in-GoOn.ensures)
+    (verdict_here m w line access _ _ _ _ _ c.meet.ensures.access c.meet.ensures.told
+    c.meet.ensures.time c.meet.ensures.full c.in-GoOn.ensures)
 
 pub returns-in-OwnLine : goal.returns-in-OwnLine
 returns-in-OwnLine g c =
@@ -41,10 +43,12 @@ returns-in-OwnLine g c =
     ⊎_elim
     (λ is. tried_own m w line access
     ∙ try_by m w line access _ c.in-Some.ensures.value
-    (verdict_here m w line access _ _ _ c.told.ensures c.time.ensures
+    (verdict_here m w line access _ _ _ _ _ c.meet.ensures.access c.meet.ensures.told
+    c.meet.ensures.time c.meet.ensures.full
     (ap verdict_as (sym is) ∙ c.retried.ensures)))
     (λ is. tried_again m w line access
     ∙ try_by m w line access _ c.in-Some.ensures.value
-    (verdict_here m w line access _ _ _ c.told.ensures c.time.ensures
+    (verdict_here m w line access _ _ _ _ _ c.meet.ensures.access c.meet.ensures.told
+    c.meet.ensures.time c.meet.ensures.full
     (ap verdict_as (sym is) ∙ c.retried.ensures)))
     c.in-OwnLine.is

@@ -7,9 +7,9 @@ use Rattle.machine.proofs.state.Machine.wait_or_lose.Goals as goal
 pub returns-then-is_full : goal.returns-then-is_full
 returns-then-is_full g c =
     let m = state g.M.Memory.at g.B.Book.kind g.B.Book.model c.args.self.now in
-    let w = c.args.warp in
-    let line = c.args.line in
-    let access = c.args.access in
+    let w = c.args.request.warp in
+    let line = c.args.request.line in
+    let access = c.args.request.access in
     let done = by_room m w line access _ _ true (sym c.is_full.ensures ∙ c.if-is_full.true)
     (lost_for_room m w line access _ _ c.stamp-stamp.result c.stamp-stamp.ensures c.lose.ensures.after
     c.lose.ensures.answer) in
@@ -18,9 +18,9 @@ returns-then-is_full g c =
 pub returns : goal.returns
 returns g c =
     let m = state g.M.Memory.at g.B.Book.kind g.B.Book.model c.args.self.now in
-    let w = c.args.warp in
-    let line = c.args.line in
-    let access = c.args.access in
+    let w = c.args.request.warp in
+    let line = c.args.request.line in
+    let access = c.args.request.access in
     let done = by_room m w line access _ _ false (sym c.is_full.ensures ∙ c.if-is_full.false)
     (waiting_now m w line access _ c.join_queue.ensures) in
     record { after = done.machine; answer = done.says }

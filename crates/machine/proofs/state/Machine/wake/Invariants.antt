@@ -1,12 +1,11 @@
 -- The turns so far are had.
 use Rattle.std.proofs.Common.{◌≡◌, take, fold}
-use Rattle.tables.specs.Lists.{few}
 use Rattle.machine.specs.Meaning.{state}
 use Rattle.machine.specs.Moves.{try_at}
 use Rattle.machine.proofs.state.Machine.wake.Given as goal
 
-abbrev pub invariant-loop-place : goal.invariant-loop-place
-invariant-loop-place g l =
+abbrev pub invariant-loop-warp : goal.invariant-loop-warp
+invariant-loop-warp g l =
     state g.M.Memory.at g.B.Book.kind g.B.Book.model l.self
     ≡ fold (try_at l.line) (state g.M.Memory.at g.B.Book.kind g.B.Book.model l.initial.self)
-    (take l.place (few l.turns))
+    (take l.warp-index l.warp-items)

@@ -1,23 +1,17 @@
 -- What is read of the front of a long file is what is read of the whole.
-use Rattle.std.proofs.Common.{◌≡◌, ℕ, zero, suc, ◌+◌, ◌*◌, ◌<◌, ◌≤◌, Bool, true, false, eqb, leb, List, ◌∷◌, length, get_or, take, is_some, Option, unwrap_or, sym, refl, ap, ◌∙◌, ap₂, ⊎_elim, arith, length-take, get_or-take}
+use Rattle.std.proofs.Common.{◌≡◌, ℕ, zero, suc, ◌+◌, ◌*◌, ◌<◌, ◌≤◌, Bool, true, false, eqb, leb, List, length, get_or, take, is_some, Some, sym, refl, ap, ◌∙◌, ap₂, ⊎_elim, arith, length-take, get_or-take}
 use Rattle.std.proofs.lemmas.List.{take_all}
 use Rattle.std.proofs.lemmas.Bool.{cases_lt, le-leb, lt-leb, le-ltb}
 use Rattle.std.proofs.lemmas.Bool.Decides.{nat_tests}
-use Rattle.std.specs.Option.{option_map}
-use Rattle.protocol.specs.Calls.{op_named}
-use Rattle.protocol.specs.declared.call.Call.{Call}
-use Rattle.protocol.specs.declared.call.Op.{Op}
+use Rattle.std.specs.Option.{option_map, ok_or}
 use Rattle.protocol.specs.Faults.{fault_in_file}
 use Rattle.protocol.specs.declared.fault.Refusal.TheVariants.{BadStamp, BadLetter}
 use Rattle.calls.specs.Format.{header_fault, marked, two_bytes, book_named, sized, warps, lines, stamps, values}
-use Rattle.calls.specs.Format.{rows_place, late_stamp, numbers, four_bytes, rows_from, row_at, row_call, row_before}
+use Rattle.calls.specs.Format.{rows_place, late_stamp, numbers, rows_from, row_at, row_before}
 use Rattle.calls.specs.Format.{file_rows}
-use Rattle.calls.specs.declared.file.Row.TheVariants.{Made, Faulty}
 use Rattle.calls.specs.Front.{ReadAlike, Suffices, longest_file}
+use Rattle.calls.proofs.SameBytes.{SameBytes, same_in_take, same_two, same_numbers, same_call}
 use Rattle.calls.proofs.HeaderChecks.{wrong_mark, wrong_version, wrong_book, wrong_size, long_enough, sound_size}
-
-made_by : ℕ → Option Op → Option Call
-made_by warp op = option_map (λ o. record { warp = warp; op = o }) op
 
 module _ (bytes : List ℕ) (n : ℕ) (long : n < length bytes) (enough : longest_file < n) where
   abbrev front : List ℕ
@@ -29,31 +23,14 @@ module _ (bytes : List ℕ) (n : ℕ) (long : n < length bytes) (enough : longes
   at : (k : ℕ) → k < n → get_or front k 0 ≡ get_or bytes k 0
   at k h = get_or-take n bytes k 0 h
 
-  two_alike : (place : ℕ) → place + 2 ≤ n → two_bytes front place ≡ two_bytes bytes place
-  two_alike place h = ap₂ (λ a b. a * 256 + b) (at place (omega arith)) (at (place + 1) (omega arith))
+  alike : (place many : ℕ) → place + many ≤ n → SameBytes front bytes place place many
+  alike place many h = same_in_take bytes n place many h
 
-  four_alike : (place : ℕ) → place + 4 ≤ n → four_bytes front place ≡ four_bytes bytes place
-  four_alike place h =
-      let a = at place (omega arith) in
-      let b = at (place + 1) (omega arith) in
-      let c = at (place + 2) (omega arith) in
-      let d = at (place + 3) (omega arith) in
-      cc
+  two_alike : (place : ℕ) → place + 2 ≤ n → two_bytes front place ≡ two_bytes bytes place
+  two_alike place h = same_two place place 2 (alike place 2 h) (omega arith)
 
   numbers_alike : (count place : ℕ) → place + 4 * count ≤ n → numbers front place count ≡ numbers bytes place count
-  numbers_alike zero place h = refl
-  numbers_alike (suc count) place h =
-      ap₂ ◌∷◌ (four_alike place (omega arith)) (numbers_alike count (place + 4) (omega arith))
-
-  call_alike : (place : ℕ) → place + 8 ≤ n → row_call front place ≡ row_call bytes place
-  unfolding made_by
-  call_alike place h =
-      let letter = at place (omega arith) in
-      let line = two_alike (place + 2) (omega arith) in
-      let value = four_alike (place + 4) (omega arith) in
-      let op = ap₂ (λ a l. op_named a l (four_bytes front (place + 4))) letter line
-      ∙ ap (op_named (get_or bytes place 0) (two_bytes bytes (place + 2))) value in
-      ap₂ made_by (at (place + 1) (omega arith)) op
+  numbers_alike count place h = same_numbers count place place (4 * count) (alike place (4 * count) h) (omega arith)
 
   row_alike : (place : ℕ) → place + 8 ≤ n → row_at front place ≡ row_at bytes place
   row_alike place h =
@@ -63,7 +40,8 @@ module _ (bytes : List ℕ) (n : ℕ) (long : n < length bytes) (enough : longes
       let whole = le-ltb (length front) (place + 8) (omega arith) in
       let whole_all = le-ltb (length bytes) (place + 8) (omega arith) in
       simp (begun, begun_whole, whole, whole_all)
-      (ap (λ c. unwrap_or (option_map Made c) (Faulty (fault_in_file BadLetter place))) (call_alike place h))
+      (ap (λ c. ok_or (option_map Some c) (fault_in_file BadLetter place))
+      (same_call place place 8 (alike place 8 h) (omega arith)))
 
   rows_alike : (more place : ℕ) → place + 8 * more < n → rows_from front more place ≡ rows_from bytes more place
   unfolding rows_from

@@ -1,5 +1,5 @@
 -- The first check of a header that fails is what is told.
-use Rattle.std.proofs.Common.{◌≡◌, ℕ, Bool, true, false, eqb, leb, List, [], ◌∷◌, length, get_or, is_some, Some, None, Option, sym, refl, ◌∙◌, arith}
+use Rattle.std.proofs.Common.{◌≡◌, ℕ, Bool, true, false, eqb, leb, List, [], ◌∷◌, length, get_or, is_some, Some, None, Option, refl}
 use Rattle.std.specs.Option.{option_map}
 use Rattle.protocol.specs.Faults.{fault_in_file}
 use Rattle.protocol.specs.declared.fault.Fault.{Fault}
@@ -11,9 +11,6 @@ use Rattle.calls.specs.Format.{rows_place, late_stamp, stamps}
 only_found : (found : Option Fault) → first_found (found ∷ []) ≡ found
 only_found None = refl
 only_found (Some fault) = refl
-
-some_not_none : {fault : Fault} → ◌≡◌ {A = Option Fault} (Some fault) None → ⊥
-some_not_none e = let z : ◌≡◌ {A = ℕ} 0 1 = cc in omega arith
 
 module _ (bytes : List ℕ) where
   pub wrong_mark : marked bytes ≡ false → header_fault bytes ≡ Some (fault_in_file BadMark 0)
@@ -48,14 +45,11 @@ module _ (bytes : List ℕ) where
   pub sound_size : header_fault bytes ≡ None → sized bytes ≡ true
   sound_size sound = go _ _ _ _ refl refl refl refl
     where
-      none≢some : {fault : Fault} → header_fault bytes ≡ Some fault → ⊥
-      none≢some e = some_not_none (sym e ∙ sound)
-
       go :
           (m v b s : Bool) → marked bytes ≡ m → eqb (two_bytes bytes 3) 1 ≡ v → is_some (book_named (get_or bytes 5 0)) ≡ b
           → sized bytes ≡ s → sized bytes ≡ true
-      go false v b s p q r t = absurd (none≢some (wrong_mark p))
-      go true false b s p q r t = absurd (none≢some (wrong_version p q))
-      go true true false s p q r t = absurd (none≢some (wrong_book p q r))
-      go true true true false p q r t = absurd (none≢some (wrong_size p q r t))
+      go false v b s p q r t = let e = wrong_mark p in cc
+      go true false b s p q r t = let e = wrong_version p q in cc
+      go true true false s p q r t = let e = wrong_book p q r in cc
+      go true true true false p q r t = let e = wrong_size p q r t in cc
       go true true true true p q r t = t

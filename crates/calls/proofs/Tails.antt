@@ -1,17 +1,14 @@
 -- What a slice pattern leaves after its first elements is the list without them.
-use Rattle.std.proofs.Common.{◌≡◌, ℕ, ◌+◌, ◌-◌, ◌*◌, List, length, get_or, take, drop, ap, ◌∙◌, ap₂, arith, length-drop, get_or-drop}
-use Rattle.std.proofs.lemmas.List.{take_all}
+use Rattle.std.proofs.Common.{◌≡◌, ℕ, ◌+◌, ◌-◌, ◌*◌, List, length, get_or, take, drop, ap, ◌∙◌, ap₂, length-drop, get_or-drop}
+use Rattle.std.proofs.lemmas.List.{take_rest}
 use Rattle.calls.specs.Format.{warps, lines}
 
 module _ (xs : List ℕ) (n : ℕ) where
-  pub tail_is : take (length xs - n) (drop n xs) ≡ drop n xs
-  tail_is = take_all (length xs - n) (drop n xs) (simp length-drop (omega arith))
-
   pub tail_length : length (take (length xs - n) (drop n xs)) ≡ length xs - n
-  tail_length = ap length tail_is ∙ length-drop n xs
+  tail_length = ap length (take_rest xs n) ∙ length-drop n xs
 
   pub tail_at : (k : ℕ) → get_or (take (length xs - n) (drop n xs)) k 0 ≡ get_or xs (n + k) 0
-  tail_at k = ap (λ ys. get_or ys k 0) tail_is ∙ get_or-drop n xs k 0
+  tail_at k = ap (λ ys. get_or ys k 0) (take_rest xs n) ∙ get_or-drop n xs k 0
 
 -- Of a list that goes on with another, what stands at the places of warps and lines.
 module _ (bytes rest : List ℕ) (follows : (k : ℕ) → get_or rest k 0 ≡ get_or bytes (5 + k) 0) where

@@ -1,6 +1,6 @@
 -- The calls file, byte by byte. Places count bytes from 0; a byte that is missing reads as 0.
-use Rattle.std.specs.Prelude.{ℕ, zero, suc, ◌+◌, ◌*◌, Bool, cond, ◌&&◌, List, [], ◌∷◌, length, is_some, Some, None, Option, ◌==◌, nat_le, nat_lt, slice_index}
-use Rattle.std.specs.Option.{option_map, unwrap_or}
+use Rattle.std.specs.Prelude.{ℕ, zero, suc, ◌+◌, ◌*◌, Bool, cond, ◌&&◌, List, [], ◌∷◌, length, is_some, Some, None, Ok, Err, Option, Result, ◌==◌, nat_le, nat_lt, slice_index}
+use Rattle.std.specs.Option.{option_map, ok_or}
 use Rattle.protocol.specs.Calls.{op_named}
 use Rattle.protocol.specs.Faults.{fault_in_file}
 use Rattle.protocol.specs.Limits.{line_limit, warp_limit, last_stamp}
@@ -11,8 +11,6 @@ use Rattle.protocol.specs.declared.fault.Refusal.TheVariants.{BadSize, BadStamp,
 use Rattle.protocol.specs.declared.fault.Refusal.TheVariants.{CutShort, BadLetter, TooManyRows}
 use Rattle.calls.specs.declared.file.BookKind.{BookKind}
 use Rattle.calls.specs.declared.file.BookKind.TheVariants.{Exact, Condensed}
-use Rattle.calls.specs.declared.file.Row.{Row}
-use Rattle.calls.specs.declared.file.Row.TheVariants.{End, Made, Faulty}
 
 -- A number of 16 or 32 bits from a place on, most significant byte first.
 abbrev pub two_bytes : List ℕ → ℕ → ℕ
@@ -91,12 +89,18 @@ row_call bytes place =
     (λ op. record { warp = slice_index bytes (place + 1); op = op })
     (op_named (slice_index bytes place) (two_bytes bytes (place + 2)) (four_bytes bytes (place + 4)))
 
--- What stands where a row may begin. A row is whole or it is none, whatever its letter.
-abbrev pub row_at : List ℕ → ℕ → Row
+-- The call that the bytes of a row say. A row is whole or it is none, whatever its letter; a fault tells its place.
+abbrev pub row_of : List ℕ → ℕ → Result Call Fault
+row_of row place =
+    cond (nat_lt (length row) 8) (Err (fault_in_file CutShort place))
+    (ok_or (row_call row 0) (fault_in_file BadLetter place))
+
+-- What stands where a row may begin: nothing at the end of the file, or else a row.
+abbrev pub row_at : List ℕ → ℕ → Result (Option Call) Fault
 row_at bytes place =
-    cond (nat_le (length bytes) place) End
-    (cond (nat_lt (length bytes) (place + 8)) (Faulty (fault_in_file CutShort place))
-    (unwrap_or (option_map Made (row_call bytes place)) (Faulty (fault_in_file BadLetter place))))
+    cond (nat_le (length bytes) place) (Ok None)
+    (cond (nat_lt (length bytes) (place + 8)) (Err (fault_in_file CutShort place))
+    (ok_or (option_map Some (row_call bytes place)) (fault_in_file BadLetter place)))
 
 -- The calls of some rows, and what is wrong after them.
 pub record Rows : Type 0 where
@@ -107,10 +111,10 @@ abbrev pub no_more : Option Fault → Rows
 no_more found = record { calls = []; fault = found }
 
 -- A row before others: the end and a fault are the last.
-abbrev pub row_before : Row → Rows → Rows
-row_before End rest = no_more None
-row_before (Made call) rest = record { calls = call ∷ rest.calls; fault = rest.fault }
-row_before (Faulty found) rest = no_more (Some found)
+abbrev pub row_before : Result (Option Call) Fault → Rows → Rows
+row_before (Ok None) rest = no_more None
+row_before (Ok (Some call)) rest = record { calls = call ∷ rest.calls; fault = rest.fault }
+row_before (Err found) rest = no_more (Some found)
 
 -- The rows from a place on, of which so many may come: 8 bytes each, to the end of the file.
 unfoldable pub rows_from : List ℕ → ℕ → ℕ → Rows

@@ -1,15 +1,7 @@
 -- How the rows that have been read stand to what the file says.
 use Rattle.std.specs.Prelude.{◌≡◌, vec_items}
 use Rattle.calls.specs.Format.{Rows}
-use Rattle.calls.specs.declared.file.Row.{Row}
-use Rattle.calls.specs.declared.file.Row.TheVariants.{End, Made, Faulty}
 use Rattle.calls.specs.declared.rows.RowsRead.{RowsRead}
-
--- What holds where a call was read.
-abbrev pub IfMade : Row → Type 0 → Type 0
-IfMade End P = Unit {0}
-IfMade (Made call) P = P
-IfMade (Faulty fault) P = Unit {0}
 
 -- The calls and the fault that were read are those of some rows.
 pub record Holds (read : RowsRead) (rows : Rows) : Type 0 where

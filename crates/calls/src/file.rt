@@ -13,14 +13,6 @@ pub enum BookKind {
     Condensed,
 }
 
-/// What stands where a row may begin: the end of the file, a call, or something that is none.
-#[derive(Clone, Copy, PartialEq, Eq, Debug)]
-pub enum Row {
-    End,
-    Made(Call),
-    Faulty(Fault),
-}
-
 /// A file whose header is sound: the machine to make, the calls to make of it, and what is wrong with the first row
 /// that names no call, if there is one.
 #[derive(Drop)]

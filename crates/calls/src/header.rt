@@ -1,7 +1,9 @@
 //! The header: marks, version, book, sizes, first stamps and line values.
-ghost use Rattle.std.specs.Prelude.{◌≡◌, ◌+◌, ◌*◌, ◌^◌, ◌<◌, ◌≤◌, length, IfOk, Some, MatchResult, nat_lt};
+ghost use Rattle.std.specs.Prelude.{◌≡◌, ◌/◌, ◌<◌, length, position, IfOk, IfSome, MatchResult, nat_lt};
+ghost use Rattle.std.specs.Option.{ok_or};
 ghost use Rattle.protocol.specs.Limits.{last_stamp};
-ghost use Rattle.calls.specs.Format.{book_named, four_bytes, numbers, late_stamp};
+ghost use Rattle.protocol.specs.declared.fault.Refusal.TheVariants.{BadLetter};
+ghost use Rattle.calls.specs.Format.{book_named, numbers};
 ghost use Rattle.calls.specs.Headers.{Versioned, Shaped, DamagedBy};
 
 use crate::file::BookKind;
@@ -23,15 +25,17 @@ pub struct Shape {
     pub lines: usize,
 }
 
-impl BookKind {
-    /// The book that a letter names.
-    pub fn named(letter: char) -> Option<BookKind>
-        ensures { result ≡ book_named letter }
-    {
+/// The book that a letter names.
+impl TryFrom<char> for BookKind {
+    type Error = Refusal;
+
+    ghost try_from_gives = { λ letter result. result ≡ ok_or (book_named letter) BadLetter };
+
+    fn try_from(letter: char) -> Result<BookKind, Refusal> {
         match letter {
-            'E' => Some(BookKind::Exact),
-            'C' => Some(BookKind::Condensed),
-            _ => None,
+            'E' => Ok(BookKind::Exact),
+            'C' => Ok(BookKind::Condensed),
+            _ => Err(Refusal::BadLetter),
         }
     }
 }
@@ -44,9 +48,7 @@ pub fn read_shape(bytes: &[u8]) -> Result<Shape, Fault>
     let [letter, sizes @ ..] = rest else {
         return Err(Fault::in_file(Refusal::BadLetter, 5));
     };
-    let Some(book) = BookKind::named(*letter as char) else {
-        return Err(Fault::in_file(Refusal::BadLetter, 5));
-    };
+    let book = BookKind::try_from(char::from(*letter)).map_err(|why| Fault::in_file(why, 5))?;
     let [warps, high, low, ..] = sizes else {
         return Err(Fault::in_file(Refusal::BadSize, 6));
     };
@@ -74,52 +76,21 @@ fn after_version(bytes: &[u8]) -> Result<&[u8], Fault>
     }
 }
 
-/// So many 32-bit numbers from a place on, most significant byte first.
-pub(crate) fn read_numbers(
-    heap: Global,
-    bytes: &[u8],
-    place: usize,
-    count: usize,
-) -> Result<Vec<u32>, AllocError>
-    requires { place + 4 * count ≤ length bytes.now }
-    ensures { IfOk result (λ v. v.items ≡ numbers bytes.now place count) }
+/// The 32-bit numbers that some bytes say, most significant byte first.
+pub(crate) fn read_numbers(heap: Global, bytes: &[u8]) -> Result<Vec<u32>, AllocError>
+    ensures { IfOk result (λ v. v.items ≡ numbers bytes.now 0 (length bytes.now / 4)) }
 {
-    let mut all = Vec::new(heap);
-    for i in 0..count {
-        all.push(number_at(bytes, place + 4 * i))?;
-    }
-    Ok(all)
+    let (quads, _) = bytes.as_chunks::<4>();
+    quads
+        .iter()
+        .map(|quad| u32::from_be_bytes(*quad))
+        .collect(heap)
 }
 
-// The 32-bit number at a place.
-fn number_at(bytes: &[u8], place: usize) -> u32
-    requires { place + 4 ≤ length bytes.now }
-    ensures { result ≡ four_bytes bytes.now place }
+/// The first stamp past the end of the clock, by its number.
+pub(crate) fn find_late(stamps: &[u32]) -> Option<usize>
+    ensures first { result ≡ position (λ stamp. nat_lt last_stamp stamp) stamps.now }
+    ensures within { IfSome result (λ number. number < length stamps.now) }
 {
-    u32::from_be_bytes([
-        bytes[place],
-        bytes[place + 1],
-        bytes[place + 2],
-        bytes[place + 3],
-    ])
-}
-
-/// The place of the first stamp past the end of the clock, where the first of them stands at a place.
-pub(crate) fn find_late(stamps: &[u32], place: usize) -> Option<usize>
-    requires { place + 4 * length stamps.now < 2 ^ 32 }
-    ensures { result ≡ late_stamp place stamps.now }
-{
-    for (i, stamp) in stamps.iter().enumerate() {
-        if is_late(*stamp) {
-            return Some(place + 4 * i);
-        }
-    }
-    None
-}
-
-// A stamp past the end of the clock.
-fn is_late(stamp: u32) -> bool
-    ensures { result ≡ nat_lt last_stamp stamp }
-{
-    stamp > limits::LAST_STAMP
+    stamps.iter().position(|stamp| *stamp > limits::LAST_STAMP)
 }

@@ -5,7 +5,7 @@ ghost use Rattle.calls.specs.Reading.{Reads};
 
 use crate::file::{CallsFile, ReadError};
 use crate::header::{LINES, WARPS, find_late, read_numbers, read_shape};
-use crate::rows::{ROWS, read_rows};
+use crate::rows::{ROW_BYTES, ROWS, read_rows};
 use protocol::fault::{Fault, Refusal};
 use std::alloc::Global;
 
@@ -23,11 +23,11 @@ pub fn read(heap: Global, bytes: &[u8]) -> Result<CallsFile, ReadError>
     if bytes.len() < rows_place {
         return Err(ReadError::Damaged(Fault::in_file(Refusal::CutShort, bytes.len())));
     }
-    let stamps = read_numbers(heap, bytes, STAMPS_PLACE, shape.warps)?;
-    if let Some(place) = find_late(stamps.as_slice(), STAMPS_PLACE) {
-        return Err(ReadError::Damaged(Fault::in_file(Refusal::BadStamp, place)));
+    let stamps = read_numbers(heap, &bytes[STAMPS_PLACE..values_place])?;
+    if let Some(late) = find_late(stamps.as_slice()) {
+        return Err(ReadError::Damaged(Fault::in_file(Refusal::BadStamp, STAMPS_PLACE + 4 * late)));
     }
-    let values = read_numbers(heap, bytes, values_place, shape.lines)?;
+    let values = read_numbers(heap, &bytes[values_place..rows_place])?;
     let rows = read_rows(heap, bytes, rows_place)?;
     Ok(CallsFile {
         book: shape.book,
@@ -49,5 +49,5 @@ pub fn enough_bytes() -> usize
 fn longest_file() -> usize
     ensures { result ≡ longest_file }
 {
-    STAMPS_PLACE + 4 * WARPS + 4 * LINES + 8 * ROWS
+    STAMPS_PLACE + 4 * WARPS + 4 * LINES + ROW_BYTES * ROWS
 }

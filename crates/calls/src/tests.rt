@@ -30,10 +30,7 @@ fn damaged(
 
 // What is read of a file whose header is sound.
 fn sound(heap: Global, bytes: &[u8]) -> Result<CallsFile, Fail> {
-    match read(heap, bytes) {
-        Ok(file) => Ok(file),
-        Err(_) => Err(Fail::new("the header is damaged")),
-    }
+    read(heap, bytes).map_err(|_| Fail::new("the header is damaged"))
 }
 
 #[test]

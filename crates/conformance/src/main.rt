@@ -33,14 +33,6 @@ fn compare(rt: &HostRuntime, name: &str) -> anyhow::Result<()> {
 
 // The row, from 1, of the first byte at which two texts differ.
 fn differing_row(a: &[u8], b: &[u8]) -> usize {
-    let mut row = 1usize;
-    for (x, y) in a.iter().zip(b) {
-        if *x != *y {
-            return row;
-        }
-        if *x == b'\n' {
-            row = row.saturating_add(1);
-        }
-    }
-    row
+    let same = a.iter().zip(b).take_while(|(x, y)| x == y);
+    same.filter(|(x, _)| **x == b'\n').count().saturating_add(1)
 }

@@ -1,5 +1,3 @@
-mod Digits
-mod Pieces
 mod MemRows
 mod CallRows
 mod Listed

@@ -1,5 +1,6 @@
 -- What is listed of a file's vectors is the listing of what the file says.
-use Rattle.std.proofs.Common.{◌≡◌, ℕ, List, length, IfOk, Ok, Err, vec_items, Option, Result, sym, ap, ◌∙◌, subst}
+use Rattle.std.proofs.Common.{◌≡◌, ℕ, List, length, IfOk, Ok, Err, vec_items, string_bytes, Option, Result, sym, subst}
+use Rattle.std.specs.declared.string.String.{String}
 use Rattle.protocol.specs.declared.call.Call.{Call}
 use Rattle.protocol.specs.declared.fault.Fault.{Fault}
 use Rattle.memory.specs.Lines.{word_lines}
@@ -11,8 +12,6 @@ use Rattle.calls.specs.declared.file.BookKind.{BookKind}
 use Rattle.calls.specs.declared.file.BookKind.TheVariants.{Exact, Condensed}
 use Rattle.calls.specs.declared.file.CallsFile.{CallsFile}
 use Rattle.listing.specs.Listing.{run_text, book_text, said_text}
-use Rattle.listing.specs.Rows.{written}
-use Rattle.listing.specs.declared.text.Text.{Text}
 
 -- The listing of a run over some words, from a state of a book.
 abbrev pub words_text : (k : Kind) → k.State → List ℕ → List ℕ → List Call → Option Fault → ℕ → List ℕ
@@ -21,21 +20,15 @@ words_text k page stamps values calls found limit =
 
 -- Equal parts are listed alike.
 pub listed_alike :
-    {E : Type 0} (k : Kind) (r : Result Text E) (page new : k.State) (st st' va va' : List ℕ) (ca ca' : List Call)
-    (found : Option Fault) (limit : ℕ)
+    {A E : Type 0} (k : Kind) (r : Result (String A) E) (page new : k.State) (st st' va va' : List ℕ)
+    (ca ca' : List Call) (found : Option Fault) (limit : ℕ)
     → page ≡ new → st' ≡ st → va' ≡ va → ca' ≡ ca → limit ≡ length va
-    → IfOk r (λ t. written t ≡ words_text k page st' va' ca' found limit)
-    → IfOk r (λ t. written t ≡ words_text k new st va ca found (length va))
-listed_alike k (Ok t) page new st st' va va' ca ca' found limit p s v c n h =
-    h
-    ∙ ap (λ x. words_text k x st' va' ca' found limit) p
-    ∙ ap (λ x. words_text k new x va' ca' found limit) s
-    ∙ ap (λ x. words_text k new st x ca' found limit) v
-    ∙ ap (λ x. words_text k new st va x found limit) c
-    ∙ ap (λ x. words_text k new st va ca found x) n
+    → IfOk r (λ t. string_bytes t ≡ words_text k page st' va' ca' found limit)
+    → IfOk r (λ t. string_bytes t ≡ words_text k new st va ca found (length va))
+listed_alike k (Ok t) page new st st' va va' ca ca' found limit p s v c n h = cc
 listed_alike k (Err e) page new st st' va va' ca ca' found limit p s v c n h = tt
 
-module _ {E : Type 0} (r : Result Text E) (file : CallsFile) where
+module _ {A E : Type 0} (r : Result (String A) E) (file : CallsFile) where
   abbrev stamps : List ℕ
   stamps = vec_items file.stamps
 
@@ -47,21 +40,21 @@ module _ {E : Type 0} (r : Result Text E) (file : CallsFile) where
 
   listed_by :
       (kind : BookKind) → file.book ≡ kind
-      → IfOk r (λ t. written t ≡ book_text kind stamps values calls file.fault)
-      → IfOk r (λ t. written t ≡ said_text file)
+      → IfOk r (λ t. string_bytes t ≡ book_text kind stamps values calls file.fault)
+      → IfOk r (λ t. string_bytes t ≡ said_text file)
   listed_by kind is h =
-      subst (λ b. IfOk r (λ t. written t ≡ book_text b stamps values calls file.fault)) (sym is) h
+      subst (λ b. IfOk r (λ t. string_bytes t ≡ book_text b stamps values calls file.fault)) (sym is) h
 
   pub exact_listed :
       file.book ≡ Exact
-      → IfOk r (λ t. written t ≡ words_text exact exact_new stamps values calls file.fault (length values))
-      → IfOk r (λ t. written t ≡ said_text file)
+      → IfOk r (λ t. string_bytes t ≡ words_text exact exact_new stamps values calls file.fault (length values))
+      → IfOk r (λ t. string_bytes t ≡ said_text file)
   unfolding book_text
   exact_listed is h = listed_by Exact is h
 
   pub condensed_listed :
       file.book ≡ Condensed
-      → IfOk r (λ t. written t ≡ words_text condensed condensed_new stamps values calls file.fault (length values))
-      → IfOk r (λ t. written t ≡ said_text file)
+      → IfOk r (λ t. string_bytes t ≡ words_text condensed condensed_new stamps values calls file.fault (length values))
+      → IfOk r (λ t. string_bytes t ≡ said_text file)
   unfolding book_text
   condensed_listed is h = listed_by Condensed is h

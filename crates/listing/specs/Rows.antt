@@ -1,21 +1,11 @@
 -- The rows of a listing, byte for byte. A row ends with a line feed.
-use Rattle.std.specs.Prelude.{ℕ, List, ◌∷◌, ◌++◌, vec_items, codes, decimal}
-use Rattle.protocol.specs.Answers.{cause_number}
+use Rattle.std.specs.Prelude.{ℕ, List, ◌∷◌, ◌++◌, codes, decimal}
+use Rattle.protocol.specs.Answers.{answer_text}
 use Rattle.protocol.specs.Calls.{op_letter}
 use Rattle.protocol.specs.declared.answer.Answer.{Answer}
-use Rattle.protocol.specs.declared.answer.Answer.TheVariants.{Ok, Val, Wait, Gone, No}
 use Rattle.protocol.specs.declared.call.Call.{Call}
 use Rattle.protocol.specs.Faults.{refusal_number}
 use Rattle.protocol.specs.declared.fault.Fault.{Fault}
-use Rattle.listing.specs.declared.text.Text.{Text}
-
--- The bytes of a text.
-abbrev pub written : Text → List ℕ
-written text = vec_items text.bytes
-
--- A row of a word and a number.
-abbrev pub number_row : List ℕ → ℕ → List ℕ
-number_row word number = word ++ (decimal number ++ codes "\n")
 
 -- A row of a word and two numbers.
 abbrev pub pair_row : List ℕ → ℕ → ℕ → List ℕ
@@ -31,11 +21,7 @@ bad_row fault = pair_row (codes "bad ") (refusal_number fault.refusal) fault.num
 
 -- The end of a call's row: its answer.
 abbrev pub answer_row : Answer → List ℕ
-answer_row Ok = codes "ok\n"
-answer_row (Val value) = number_row (codes "val ") value
-answer_row Wait = codes "wait\n"
-answer_row (Gone cause next) = pair_row (codes "gone ") (cause_number cause) next
-answer_row (No fault) = number_row (codes "no ") (refusal_number fault.refusal)
+answer_row answer = answer_text answer ++ codes "\n"
 
 -- A call's row: its place in the run, from 1, its letter, its warp and its answer.
 abbrev pub call_row : ℕ → Call → Answer → List ℕ

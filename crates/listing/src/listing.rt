@@ -1,10 +1,9 @@
 //! From the bytes of a calls file to the text of its listing.
-ghost use Rattle.std.specs.Prelude.{◌≡◌, ◌++◌, IfOk};
+ghost use Rattle.std.specs.Prelude.{◌≡◌, ◌++◌, IfOk, string_bytes};
 ghost use Rattle.machine.specs.Running.{run_of};
 ghost use Rattle.listing.specs.Listing.{call_rows, line_row, mem_rows, run_text, said_text, listing_text};
-ghost use Rattle.listing.specs.Rows.{written};
 
-use crate::text::Text;
+use crate::text::{add_bad_row, add_call_row, add_mem_row};
 use book::exact::ExactBook;
 use book::record::Book;
 use calls::file::{BookKind, CallsFile, ReadError};
@@ -20,19 +19,19 @@ use protocol::fault::Fault;
 use std::alloc::{AllocError, Global};
 
 /// The listing of a calls file. Nothing is listed only where memory is wanting.
-pub fn list(heap: Global, bytes: &[u8]) -> Result<Text, AllocError>
-    ensures { IfOk result (λ t. written t ≡ listing_text bytes.now) }
+pub fn list(heap: Global, bytes: &[u8]) -> Result<String, AllocError>
+    ensures { IfOk result (λ t. string_bytes t ≡ listing_text bytes.now) }
 {
     match read(heap, bytes) {
         Ok(file) => list_file(heap, file),
-        Err(ReadError::Damaged(fault)) => Text::new(heap).bad_row(fault),
+        Err(ReadError::Damaged(fault)) => add_bad_row(String::new(heap), fault),
         Err(ReadError::NoMemory) => Err(AllocError),
     }
 }
 
 // The listing of a file whose header is sound.
-fn list_file(heap: Global, file: CallsFile) -> Result<Text, AllocError>
-    ensures { IfOk result (λ t. written t ≡ said_text file) }
+fn list_file(heap: Global, file: CallsFile) -> Result<String, AllocError>
+    ensures { IfOk result (λ t. string_bytes t ≡ said_text file) }
 {
     let CallsFile {
         book,
@@ -41,77 +40,72 @@ fn list_file(heap: Global, file: CallsFile) -> Result<Text, AllocError>
         calls,
         fault,
     } = file;
-    let limit = values.len() as u32;
+    let script = Script {
+        stamps: stamps.as_slice(),
+        calls: calls.as_slice(),
+        fault,
+        lines: values.len() as u32,
+    };
     let memory = WordMemory {
         words: values.as_mut_slice(),
     };
     match book {
-        BookKind::Exact => list_run(
-            heap,
-            memory,
-            ExactBook::new(),
-            stamps.as_slice(),
-            calls.as_slice(),
-            fault,
-            limit,
-        ),
-        BookKind::Condensed => {
-            list_run(
-                heap,
-                memory,
-                CondensedBook::new(),
-                stamps.as_slice(),
-                calls.as_slice(),
-                fault,
-                limit,
-            )
+        BookKind::Exact => script.list(heap, memory, ExactBook::new()),
+        BookKind::Condensed => script.list(heap, memory, CondensedBook::new()),
+    }
+}
+
+/// What a machine is to do: the first stamps and the calls, what is wrong after them, and how many lines are listed
+/// at the end.
+#[derive(Clone, Copy)]
+pub struct Script<'a> {
+    pub stamps: &'a [u32],
+    pub calls: &'a [Call],
+    pub fault: Option<Fault>,
+    pub lines: u32,
+}
+
+impl Script<'_> {
+    /// The listing of a run over any memory and any book.
+    pub fn list<M: Memory + Drop, B: Book + Drop>(
+        &self,
+        heap: Global,
+        memory: M,
+        book: B,
+    ) -> Result<String, AllocError>
+        ensures { IfOk result (λ t. string_bytes t ≡ run_text
+            (run_of B.Book.kind (M.Memory.at memory) (B.Book.model book) self.now.stamps.now self.now.calls.now)
+            self.now.calls.now self.now.fault self.now.lines) }
+    {
+        let ran = run(heap, memory, book, self.stamps, self.calls)?;
+        let text = add_call_rows(String::new(heap), self.calls, ran.answers.as_slice())?;
+        match self.fault {
+            Some(fault) => add_bad_row(text, fault),
+            None => add_mem_rows(text, &ran.machine, self.lines),
         }
     }
 }
 
-/// The listing of a run over any memory and any book.
-pub fn list_run<M: Memory + Drop, B: Book + Drop>(
-    heap: Global,
-    memory: M,
-    book: B,
-    stamps: &[u32],
-    calls: &[Call],
-    fault: Option<Fault>,
-    limit: u32,
-) -> Result<Text, AllocError>
-    ensures { IfOk result (λ t. written t ≡ run_text
-        (run_of B.Book.kind (M.Memory.at memory) (B.Book.model book) stamps.now calls.now)
-        calls.now fault limit) }
-{
-    let ran = run(heap, memory, book, stamps, calls)?;
-    let text = add_call_rows(Text::new(heap), calls, ran.answers.as_slice())?;
-    match fault {
-        Some(fault) => text.bad_row(fault),
-        None => add_mem_rows(text, &ran.machine, limit),
-    }
-}
-
-// The text with a row for each call and its answer.
-fn add_call_rows(text: Text, calls: &[Call], answers: &[Answer]) -> Result<Text, AllocError>
-    ensures { IfOk result (λ t. written t
-        ≡ written text ++ call_rows 1 calls.now answers.now) }
+// The text with a row for each call and its answer. The calls are the caller's and the answers the run's, so they come as
+// two slices.
+fn add_call_rows(text: String, calls: &[Call], answers: &[Answer]) -> Result<String, AllocError>
+    ensures { IfOk result (λ t. string_bytes t ≡ string_bytes text ++ call_rows 1 calls.now answers.now) }
 {
     let mut all = text;
-    let count = calls.len().min(answers.len());
-    for i in 0..count {
-        all = all.call_row(i as u64 + 1, calls[i], answers[i])?;
+    for (i, (call, answer)) in calls.iter().zip(answers).enumerate() {
+        all = add_call_row(all, i as u64 + 1, *call, *answer)?;
     }
     Ok(all)
 }
 
 // The text with a row for each line below a limit that the machine's memory has.
 fn add_mem_rows<M: Memory, B: Book>(
-    text: Text,
+    text: String,
     machine: &Machine<M, B>,
     limit: u32,
-) -> Result<Text, AllocError>
-    ensures { IfOk result (λ t. written t
-        ≡ written text ++ mem_rows (M.Memory.at machine.now.memory) limit) }
+) -> Result<String, AllocError>
+    ensures { IfOk result (λ t. string_bytes t
+        ≡ string_bytes text ++ mem_rows (M.Memory.at machine.now.memory) limit) }
 {
     let mut all = text;
     for line in 0..limit {
@@ -122,15 +116,15 @@ fn add_mem_rows<M: Memory, B: Book>(
 
 // The text with the row of a line, if the memory has it.
 fn add_line_row<M: Memory, B: Book>(
-    text: Text,
+    text: String,
     machine: &Machine<M, B>,
     line: u32,
-) -> Result<Text, AllocError>
-    ensures { IfOk result (λ t. written t
-        ≡ written text ++ line_row line (M.Memory.at machine.now.memory line)) }
+) -> Result<String, AllocError>
+    ensures { IfOk result (λ t. string_bytes t
+        ≡ string_bytes text ++ line_row line (M.Memory.at machine.now.memory line)) }
 {
     match machine.value(line) {
-        Ok(value) => text.mem_row(line, value),
+        Ok(value) => add_mem_row(text, line, value),
         Err(_) => Ok(text),
     }
 }

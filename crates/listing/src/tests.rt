@@ -1,6 +1,6 @@
 //! Small listings, by example.
 use crate::listing::list;
-use crate::text::Text;
+use crate::text::add_number;
 use std::alloc::Global;
 use std::process::Abort;
 use std::test::Fail;
@@ -13,7 +13,7 @@ fn lists(rt: &impl Abort, heap: Global, bytes: &[u8], text: &[u8]) -> Result<(),
 }
 
 fn written(rt: &impl Abort, heap: Global, number: u64, text: &[u8]) -> Result<(), Fail> {
-    let all = Text::new(heap).number(number)?;
+    let all = add_number(String::new(heap), number)?;
     assert!(rt; all.as_bytes() == text);
     Ok(())
 }

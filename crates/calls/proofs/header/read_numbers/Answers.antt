@@ -1,11 +1,10 @@
--- Each turn reads one number more.
-use Rattle.calls.proofs.NumberSteps.{numbers_more}
+-- Each four bytes are a number.
+use Rattle.std.proofs.Common.{◌/◌, length, rules}
+use Rattle.std.proofs.iter.runs.Made.{chains}
+use Rattle.calls.proofs.NumberSteps.{numbers_by_fours}
 use Rattle.calls.proofs.header.read_numbers.Goals as goal
 
-pub loop-i-preserved : goal.loop-i-preserved
-loop-i-preserved c =
-    let more = numbers_more c.args.bytes.now c.args.place c.loop-i.i in
-    let items = c.in_ok-push.ensures.items in
-    let value = c.number_at.ensures in
-    let before = c.loop-i.invariant in
-    cc
+pub returns : goal.returns
+returns c =
+    let bytes = c.args.bytes.now in
+    rw (← (numbers_by_fours (length bytes / 4) bytes)) (search (rules, chains))

@@ -1,11 +1,13 @@
-use Rattle.std.proofs.Common.{◌≡◌, ◌+◌, ◌++◌}
+use Rattle.std.proofs.Common.{◌≡◌, ◌+◌, ◌++◌, string_bytes}
+use Rattle.std.specs.Iterator.Adapters.{enumerate_source, enumerate_count, zip_first, zip_second}
+use Rattle.std.specs.Slice.Iter.{iter_rest}
 use Rattle.listing.specs.Listing.{call_rows}
-use Rattle.listing.specs.Rows.{written}
-use Rattle.listing.proofs.CallRows.{rest_rows}
 use Rattle.listing.proofs.listing.add_call_rows.Given as goal
 
 -- What is listed and what is still to be listed are the whole.
 abbrev pub invariant-loop-i : goal.invariant-loop-i
 invariant-loop-i l =
-    written l.all ++ rest_rows l.calls l.answers l.i (l.i + 1)
-    ≡ written l.initial.all ++ call_rows 1 l.calls l.answers
+    string_bytes l.all
+    ++ call_rows (enumerate_count l.i-iterator + 1) (iter_rest (zip_first (enumerate_source l.i-iterator)))
+    (iter_rest (zip_second (enumerate_source l.i-iterator)))
+    ≡ string_bytes l.fn.text ++ call_rows 1 l.calls l.answers

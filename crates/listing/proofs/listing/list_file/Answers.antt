@@ -7,15 +7,15 @@ use Rattle.listing.proofs.listing.list_file.Goals as goal
 
 pub returns-in-Exact : goal.returns-in-Exact
 returns-in-Exact c =
-    exact_listed c.list_run.result c.args.file c.in-Exact.is
-    (listed_alike exact c.list_run.result _ exact_new _ _ _ _ _ _ _ _ c.new.ensures.value
-    c.as_slice.ensures.value c.as_mut_slice.ensures.value c.as_slice-in-Exact.ensures.value
-    (c.len-limit.ensures ∙ c.args.file.values.ok.0) c.list_run.ensures)
+    exact_listed c.list.result c.args.file c.in-Exact.is
+    (listed_alike exact c.list.result _ exact_new _ _ _ _ _ _ _ _ c.new.ensures.value
+    c.as_slice.ensures.value c.as_mut_slice.ensures.value c.as_slice-2.ensures.value
+    (c.len.ensures ∙ c.args.file.values.ok.0) c.list.ensures)
 
 pub returns : goal.returns
 returns c =
-    condensed_listed c.list_run-in-Condensed.result c.args.file c.in-Condensed.is
-    (listed_alike condensed c.list_run-in-Condensed.result _ condensed_new _ _ _ _ _ _ _ _
-    c.new-in-Condensed.ensures.value c.as_slice-in-Condensed.ensures.value
-    c.as_mut_slice.ensures.value c.as_slice-in-Condensed-2.ensures.value
-    (c.len-limit.ensures ∙ c.args.file.values.ok.0) c.list_run-in-Condensed.ensures)
+    condensed_listed c.list-in-Condensed.result c.args.file c.in-Condensed.is
+    (listed_alike condensed c.list-in-Condensed.result _ condensed_new _ _ _ _ _ _ _ _
+    c.new-in-Condensed.ensures.value
+    c.as_slice.ensures.value c.as_mut_slice.ensures.value c.as_slice-2.ensures.value
+    (c.len.ensures ∙ c.args.file.values.ok.0) c.list-in-Condensed.ensures)

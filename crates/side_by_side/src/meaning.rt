@@ -1,7 +1,8 @@
 //! The meanings of a book, checked on what it tells before and after a call.
 use crate::told::Look;
 use book::call::BookCall;
-use book::entry::comes_before;
+use book::entry::{can_be, comes_before};
+use protocol::limits::{LINES, STORES};
 
 /// A call that was made of a book, and whether the book granted it.
 #[derive(Clone, Copy)]
@@ -34,17 +35,38 @@ impl Made {
         }
     }
 
-    /// Whether the latest stamp rose no further than it may.
+    /// Whether the latest stamp rose no further than it may; a refused call leaves it.
     pub fn bounded(self, before: u32, after: u32) -> bool {
+        if !self.granted {
+            return after == before;
+        }
         let most = match self.call {
-            BookCall::Note { time, .. } if self.granted => before.max(time.0),
-            BookCall::Reserve { time, .. } if self.granted => {
-                before.max(time.0.saturating_add(1))
-            }
-            _ => before,
+            BookCall::Note { time, .. } => before.max(time.0),
+            BookCall::Reserve { time, .. } => before.max(time.0.saturating_add(1)),
+            BookCall::Add { .. } | BookCall::Release { .. } => before,
         };
         after <= most
     }
+}
+
+/// Whether a book has to grant a call, by what it told of the call's line before. It grants no other.
+pub fn may(call: BookCall, look: &Look) -> bool {
+    if look.line >= LINES {
+        return false;
+    }
+    match call {
+        BookCall::Note { time, .. } => can_be(time),
+        BookCall::Reserve { time, .. } => can_be(time) && look.stores == 0 && look.told.slot,
+        BookCall::Add { .. } => look.stores > 0 && (look.stores as usize) < STORES,
+        BookCall::Release { .. } => true,
+    }
+}
+
+/// Whether every line has a slot, if fewer lines are reserved than the book has slots. No other line is reserved than
+/// those looked at.
+pub fn roomy(looks: &[Look], slots: usize) -> bool {
+    let reserved = looks.iter().filter(|look| look.stores > 0).count();
+    reserved >= slots || looks.iter().all(|look| look.told.slot)
 }
 
 /// A line's reservation is as it was.

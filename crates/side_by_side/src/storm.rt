@@ -1,5 +1,5 @@
 //! Random calls from a fixed seed, made of both books, with the meanings checked at each step.
-use crate::meaning::{Made, sound};
+use crate::meaning::{Made, may, roomy, sound};
 use crate::told::Look;
 use book::call::{BookCall, make_both};
 use book::exact::ExactBook;
@@ -81,11 +81,11 @@ impl Snapshot {
     }
 }
 
-/// Whether a book kept its meanings over a call.
-fn step_kept(made: Made, before: &Snapshot, after: &Snapshot) -> bool {
+/// Whether a book of so many slots kept its meanings over a call.
+fn step_kept(made: Made, slots: usize, before: &Snapshot, after: &Snapshot) -> bool {
     let mut looks = before.looks.iter().zip(&after.looks);
     let each = looks.all(|(a, b)| made.kept(a, b) && sound(b, after.latest));
-    each && made.bounded(before.latest, after.latest)
+    each && roomy(&after.looks, slots) && made.bounded(before.latest, after.latest)
 }
 
 /// How many lines one book tells later than the other, or nothing where it tells one earlier.
@@ -110,10 +110,15 @@ fn step(
     call: BookCall,
 ) -> Option<(bool, usize)> {
     let was = (Snapshot::of(exact), Snapshot::of(condensed));
+    let asked = may(call, &Look::at(condensed, call.line()));
+    let exact_too = may(call, &Look::at(exact, call.line()));
     let granted = make_both(condensed, exact, call).is_ok();
+    if granted != asked || (granted && !exact_too) {
+        return None;
+    }
     let is = (Snapshot::of(exact), Snapshot::of(condensed));
     let made = Made { call, granted };
-    if !step_kept(made, &was.0, &is.0) || !step_kept(made, &was.1, &is.1) {
+    if !step_kept(made, 4096, &was.0, &is.0) || !step_kept(made, 16, &was.1, &is.1) {
         return None;
     }
     let later = later_lines(&is.0.looks, &is.1.looks)?;

@@ -12,7 +12,7 @@ use Rattle.book.specs.Time.{Time, earlier}
 use Rattle.rules.specs.Access.{Told, Verdict, told, decide, own_line, lost, must_wait, go_on}
 use Rattle.rules.specs.Access.{stamp_past, by_owner, by_mark, retried, is_owner}
 use Rattle.rules.specs.Queue.{product, is_full}
-use Rattle.rules.specs.State.{Lane, Machine, in_phase, lane_of, time_of}
+use Rattle.rules.specs.State.{WarpRow, Machine, in_phase, warp_row_of, time_of}
 use Rattle.rules.specs.Serving.{serves, serves_own}
 use Rattle.rules.specs.Steps.{waits, accessed, accesses, fetched}
 use Rattle.rules.specs.Ending.{ends}
@@ -84,7 +84,7 @@ module _ {k : Kind} (m : Machine k) (w : ℕ) where
         (after : Machine k) (answer : Answer) (v : Verdict) (wanted : Access) (facts : Told) (time : Time) (full : Bool)
         → wanted ≡ access → facts ≡ told k m.book line → time ≡ time_of m w → full ≡ false
         → v ≡ decide wanted facts time full
-        → By after answer (if_full (is_full 4 4 m.queue line) (lane_of m w).stamp v) → Done after answer
+        → By after answer (if_full (is_full 4 4 m.queue line) (warp_row_of m w).stamp v) → Done after answer
     by_verdict after answer v wanted facts time none a f t n e by =
         let here = told k m.book line in
         let full = is_full 4 4 m.queue line in
@@ -92,7 +92,7 @@ module _ {k : Kind} (m : Machine k) (w : ℕ) where
         e ∙ ap (λ x. decide x facts time none) a ∙ ap (decide access facts time) n
         ∙ ap (λ x. decide access x time false) f ∙ ap (λ x. decide access here x false) t in
         subst (λ x. By after answer x)
-        (ap (if_full full (lane_of m w).stamp) is ∙ sym (decide_full access here (time_of m w) full)) by
+        (ap (if_full full (warp_row_of m w).stamp) is ∙ sym (decide_full access here (time_of m w) full)) by
 
     -- A request that would wait, by whether the queue is full.
     abbrev Queues : Machine k → Answer → Type 0
@@ -101,8 +101,8 @@ module _ {k : Kind} (m : Machine k) (w : ℕ) where
 
     pub by_room :
         (after : Machine k) (answer : Answer) (full : Bool) → is_full 4 4 m.queue line ≡ full
-        → By after answer (if_room full (lane_of m w).stamp) → Queues after answer
-    by_room after answer full is by = subst (λ b. By after answer (if_room b (lane_of m w).stamp)) (sym is) by
+        → By after answer (if_room full (warp_row_of m w).stamp) → Queues after answer
+    by_room after answer full is by = subst (λ b. By after answer (if_room b (warp_row_of m w).stamp)) (sym is) by
 
     pub on_own_line :
         (after : Machine k) (outcome : Outcome) (answer : Answer) → after ≡ (serves_own m w line access).machine
@@ -123,9 +123,9 @@ module _ {k : Kind} (m : Machine k) (w : ℕ) where
     being_lost after answer cause next a says = record { machine = a; says = says }
 
     pub lost_for_room :
-        (after : Machine k) (answer : Answer) (stamp : ℕ) → stamp ≡ (lane_of m w).stamp
+        (after : Machine k) (answer : Answer) (stamp : ℕ) → stamp ≡ (warp_row_of m w).stamp
         → after ≡ (ends (product k) m w stamp).machine → answer ≡ Gone QueueFull stamp
-        → By after answer (lost QueueFull (lane_of m w).stamp)
+        → By after answer (lost QueueFull (warp_row_of m w).stamp)
     lost_for_room after answer stamp is e says =
         subst (λ s. By after answer (lost QueueFull s)) is (being_lost after answer QueueFull stamp e says)
 
@@ -139,21 +139,21 @@ module _ {k : Kind} (m : Machine k) (w : ℕ) where
   abbrev Fetched : Machine k → Answer → Outcome → Type 0
   Fetched after answer o = Leaves after answer (fetched (product k) m w o).machine (fetched (product k) m w o).answer
 
-  abbrev resumes_it : List Lane → List Lane
-  resumes_it ls = set ls w (in_phase (lane_of m w) Open)
+  abbrev resumes_it : List WarpRow → List WarpRow
+  resumes_it ls = set ls w (in_phase (warp_row_of m w) Open)
 
   -- Neither a value nor a store ends the transaction.
   pub fetched_on :
-      (lanes : List Lane) (queue : List Request) (answer : Answer) (outcome : Outcome)
+      (warp_rows : List WarpRow) (queue : List Request) (answer : Answer) (outcome : Outcome)
       → ((cause : Cause) (next : ℕ) → outcome ≡ LostOut cause next → ⊥)
-      → lanes ≡ resumes_it m.lanes → queue ≡ m.queue → answer ≡ answer_of outcome
-      → Fetched (built m.lines m.book lanes queue) answer outcome
+      → warp_rows ≡ resumes_it m.warp_rows → queue ≡ m.queue → answer ≡ answer_of outcome
+      → Fetched (built m.lines m.book warp_rows queue) answer outcome
   unfolding fetched
-  fetched_on lanes queue answer (Value value) not a b says =
-      record { machine = then_tables m m lanes queue resumes_it (λ q. q) refl a b; says = says }
-  fetched_on lanes queue answer Stored not a b says =
-      record { machine = then_tables m m lanes queue resumes_it (λ q. q) refl a b; says = says }
-  fetched_on lanes queue answer (LostOut cause next) not a b says = absurd (not cause next refl)
+  fetched_on warp_rows queue answer (Value value) not a b says =
+      record { machine = then_tables m m warp_rows queue resumes_it (λ q. q) refl a b; says = says }
+  fetched_on warp_rows queue answer Stored not a b says =
+      record { machine = then_tables m m warp_rows queue resumes_it (λ q. q) refl a b; says = says }
+  fetched_on warp_rows queue answer (LostOut cause next) not a b says = absurd (not cause next refl)
 
   pub fetched_gone :
       (after : Machine k) (answer : Answer) (cause : Cause) (next : ℕ) (outcome : Outcome)

@@ -2,7 +2,7 @@
 use Rattle.std.proofs.Common.{◌≡◌, ℕ, List, set, fold, sym, ap, ◌∙◌}
 use Rattle.book.specs.Meaning.{Kind}
 use Rattle.rules.specs.Queue.{product}
-use Rattle.rules.specs.State.{Lane, Machine, idle_at, lane_of}
+use Rattle.rules.specs.State.{WarpRow, Machine, idle_at, warp_row_of}
 use Rattle.rules.specs.Ending.{lets_go, ends, logged_lines}
 use Rattle.rules.specs.declared.state.Request.{Request}
 use Rattle.machine.specs.Moves.{wake_at, releasing}
@@ -11,22 +11,22 @@ use Rattle.machine.proofs.Turning.{ends_is}
 
 module _ {k : Kind} (m : Machine k) (w stamp : ℕ) where
   rested :
-      (mid : Machine k) (lanes : List Lane) (queue : List Request) (lines : List ℕ)
-      → lines ≡ logged_lines (lane_of m w).log → mid ≡ releasing m lines
-      → lanes ≡ set mid.lanes w (idle_at stamp) → queue ≡ mid.queue
-      → built mid.lines mid.book lanes queue ≡ lets_go m w stamp
+      (mid : Machine k) (warp_rows : List WarpRow) (queue : List Request) (lines : List ℕ)
+      → lines ≡ logged_lines (warp_row_of m w).log → mid ≡ releasing m lines
+      → warp_rows ≡ set mid.warp_rows w (idle_at stamp) → queue ≡ mid.queue
+      → built mid.lines mid.book warp_rows queue ≡ lets_go m w stamp
   unfolding lets_go
-  rested mid lanes queue lines is e a b =
-      then_tables mid (releasing m (logged_lines (lane_of m w).log)) lanes queue (λ ls. set ls w (idle_at stamp))
+  rested mid warp_rows queue lines is e a b =
+      then_tables mid (releasing m (logged_lines (warp_row_of m w).log)) warp_rows queue (λ ls. set ls w (idle_at stamp))
       (λ q. q)
       (e ∙ ap (releasing m) is) a b
 
   pub ended_is :
-      (mid after : Machine k) (lanes : List Lane) (queue : List Request) (lines : List ℕ)
-      → lines ≡ logged_lines (lane_of m w).log → mid ≡ releasing m lines
-      → lanes ≡ set mid.lanes w (idle_at stamp) → queue ≡ mid.queue
-      → after ≡ fold wake_at (built mid.lines mid.book lanes queue) lines
+      (mid after : Machine k) (warp_rows : List WarpRow) (queue : List Request) (lines : List ℕ)
+      → lines ≡ logged_lines (warp_row_of m w).log → mid ≡ releasing m lines
+      → warp_rows ≡ set mid.warp_rows w (idle_at stamp) → queue ≡ mid.queue
+      → after ≡ fold wake_at (built mid.lines mid.book warp_rows queue) lines
       → after ≡ (ends (product k) m w stamp).machine
-  ended_is mid after lanes queue lines is e a b f =
-      f ∙ ap (λ x. fold wake_at x lines) (rested mid lanes queue lines is e a b)
+  ended_is mid after warp_rows queue lines is e a b f =
+      f ∙ ap (λ x. fold wake_at x lines) (rested mid warp_rows queue lines is e a b)
       ∙ ap (fold wake_at (lets_go m w stamp)) is ∙ sym (ends_is m w stamp)

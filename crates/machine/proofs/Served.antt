@@ -7,45 +7,45 @@ use Rattle.protocol.specs.declared.answer.Outcome.TheVariants.{Value, Stored}
 use Rattle.memory.specs.Lines.{Lines}
 use Rattle.book.specs.Meaning.{Kind, added}
 use Rattle.rules.specs.Queue.{without}
-use Rattle.rules.specs.State.{Lane, Machine, idle_at, in_phase, logging, is_waiting, with_book, lane_of}
+use Rattle.rules.specs.State.{WarpRow, Machine, idle_at, in_phase, logging, is_waiting, with_book, warp_row_of}
 use Rattle.rules.specs.Serving.{memory_value, reads, serves, serves_own}
 use Rattle.rules.specs.Ending.{settles}
 use Rattle.rules.specs.declared.state.Access.{Access}
 use Rattle.rules.specs.declared.state.Access.TheVariants.{Read, Write}
 use Rattle.rules.specs.declared.state.Phase.TheVariants.{Settled}
 use Rattle.rules.specs.declared.state.Request.{Request}
-use Rattle.tables.specs.Pages.{lane_at, has_room}
+use Rattle.tables.specs.Pages.{warp_row_at, has_room}
 use Rattle.tables.specs.Rows.{pair_of}
 use Rattle.tables.specs.declared.row.Store.{Store}
 use Rattle.machine.specs.Moves.{own_value, reserving, comes_through}
 
 module _ {k : Kind} where
-  abbrev pub built : Lines → k.State → List Lane → List Request → Machine k
-  built lines book lanes queue = record { lines = lines; book = book; lanes = lanes; queue = queue }
+  abbrev pub built : Lines → k.State → List WarpRow → List Request → Machine k
+  built lines book warp_rows queue = record { lines = lines; book = book; warp_rows = warp_rows; queue = queue }
 
-  -- Lanes and queue changed after the rest.
+  -- Rows and queue changed after the rest.
   pub then_tables :
-      (m n : Machine k) (lanes : List Lane) (queue : List Request) (f : List Lane → List Lane)
-      (q : List Request → List Request) → m ≡ n → lanes ≡ f m.lanes → queue ≡ q m.queue
-      → built m.lines m.book lanes queue
-      ≡ built n.lines n.book (f n.lanes) (q n.queue)
-  then_tables m n lanes queue f q e a b =
+      (m n : Machine k) (warp_rows : List WarpRow) (queue : List Request) (f : List WarpRow → List WarpRow)
+      (q : List Request → List Request) → m ≡ n → warp_rows ≡ f m.warp_rows → queue ≡ q m.queue
+      → built m.lines m.book warp_rows queue
+      ≡ built n.lines n.book (f n.warp_rows) (q n.queue)
+  then_tables m n warp_rows queue f q e a b =
       ap (λ ls. built m.lines m.book ls queue) a
-      ∙ ap (λ qs. built m.lines m.book (f m.lanes) qs) b
-      ∙ ap (λ (x : Machine k). built x.lines x.book (f x.lanes) (q x.queue)) e
+      ∙ ap (λ qs. built m.lines m.book (f m.warp_rows) qs) b
+      ∙ ap (λ (x : Machine k). built x.lines x.book (f x.warp_rows) (q x.queue)) e
 
   module _ (m : Machine k) (w line : ℕ) where
-    abbrev logs_it : ℕ → List Lane → List Lane
-    logs_it value ls = set ls w (logging (lane_at ls w) line value)
+    abbrev logs_it : ℕ → List WarpRow → List WarpRow
+    logs_it value ls = set ls w (logging (warp_row_at ls w) line value)
 
-    abbrev settles_it : Outcome → List Lane → List Lane
-    settles_it outcome ls = set ls w (in_phase (lane_at ls w) (Settled outcome))
+    abbrev settles_it : Outcome → List WarpRow → List WarpRow
+    settles_it outcome ls = set ls w (in_phase (warp_row_at ls w) (Settled outcome))
 
     -- A logged store, by its line and value.
-    pub log_lanes :
-        (ls lanes : List Lane) (s : Store) (value : ℕ) → pair_of s ≡ (line, value)
-        → lanes ≡ set ls w (logging (lane_at ls w) s.line s.value) → lanes ≡ logs_it value ls
-    log_lanes ls lanes s value is e = e ∙ ap (λ (p : ℕ × ℕ). set ls w (logging (lane_at ls w) p.0 p.1)) is
+    pub log_warp_rows :
+        (ls warp_rows : List WarpRow) (s : Store) (value : ℕ) → pair_of s ≡ (line, value)
+        → warp_rows ≡ set ls w (logging (warp_row_at ls w) s.line s.value) → warp_rows ≡ logs_it value ls
+    log_warp_rows ls warp_rows s value is e = e ∙ ap (λ (p : ℕ × ℕ). set ls w (logging (warp_row_at ls w) p.0 p.1)) is
 
     pub read_served : (after : Machine k) (access : Access) → access ≡ Read → after ≡ reads m w line
         → after ≡ (serves m w line access).machine
@@ -58,13 +58,13 @@ module _ {k : Kind} where
     read_value value access is e = ap Value e ∙ ap (λ a. (serves m w line a).outcome) (sym is)
 
     pub write_served :
-        (mid : Machine k) (lanes : List Lane) (queue : List Request) (value : ℕ) (access : Access)
+        (mid : Machine k) (warp_rows : List WarpRow) (queue : List Request) (value : ℕ) (access : Access)
         → access ≡ Write value
-        → mid ≡ reserving m w line → lanes ≡ logs_it value mid.lanes → queue ≡ mid.queue
-        → built mid.lines mid.book lanes queue ≡ (serves m w line access).machine
+        → mid ≡ reserving m w line → warp_rows ≡ logs_it value mid.warp_rows → queue ≡ mid.queue
+        → built mid.lines mid.book warp_rows queue ≡ (serves m w line access).machine
     unfolding serves
-    write_served mid lanes queue value access is e a b =
-        then_tables mid (reserving m w line) lanes queue (logs_it value) (λ q. q) e a b
+    write_served mid warp_rows queue value access is e a b =
+        then_tables mid (reserving m w line) warp_rows queue (logs_it value) (λ q. q) e a b
         ∙ ap (λ a. (serves m w line a).machine) (sym is)
 
     pub write_stored : (value : ℕ) (access : Access) → access ≡ Write value → Stored ≡ (serves m w line access).outcome
@@ -82,12 +82,12 @@ module _ {k : Kind} where
     own_read_value value access is e = ap Value e ∙ ap (λ a. (serves_own m w line a).outcome) (sym is)
 
     pub own_write_served :
-        (book : k.State) (lanes : List Lane) (queue : List Request) (value : ℕ) (access : Access)
-        → access ≡ Write value → book ≡ added k m.book line → lanes ≡ logs_it value m.lanes → queue ≡ m.queue
-        → built m.lines book lanes queue ≡ (serves_own m w line access).machine
+        (book : k.State) (warp_rows : List WarpRow) (queue : List Request) (value : ℕ) (access : Access)
+        → access ≡ Write value → book ≡ added k m.book line → warp_rows ≡ logs_it value m.warp_rows → queue ≡ m.queue
+        → built m.lines book warp_rows queue ≡ (serves_own m w line access).machine
     unfolding serves_own
-    own_write_served book lanes queue value access is e a b =
-        then_tables (with_book m book) (with_book m (added k m.book line)) lanes queue (logs_it value) (λ q. q)
+    own_write_served book warp_rows queue value access is e a b =
+        then_tables (with_book m book) (with_book m (added k m.book line)) warp_rows queue (logs_it value) (λ q. q)
         (ap (with_book m) e) a b
         ∙ ap (λ a. (serves_own m w line a).machine) (sym is)
 
@@ -98,34 +98,34 @@ module _ {k : Kind} where
 
     -- A request that comes out.
     pub settled_is :
-        (mid : Machine k) (lanes : List Lane) (queue : List Request) (outcome : Outcome)
-        → lanes ≡ settles_it outcome mid.lanes → queue ≡ without mid.queue w
-        → built mid.lines mid.book lanes queue ≡ settles mid w outcome
+        (mid : Machine k) (warp_rows : List WarpRow) (queue : List Request) (outcome : Outcome)
+        → warp_rows ≡ settles_it outcome mid.warp_rows → queue ≡ without mid.queue w
+        → built mid.lines mid.book warp_rows queue ≡ settles mid w outcome
     unfolding settles
-    settled_is mid lanes queue outcome a b =
-        then_tables mid mid lanes queue (settles_it outcome) (λ q. without q w) refl a b
+    settled_is mid warp_rows queue outcome a b =
+        then_tables mid mid warp_rows queue (settles_it outcome) (λ q. without q w) refl a b
 
     pub read_through :
-        (mid : Machine k) (lanes : List Lane) (queue : List Request) (value : ℕ) (access : Access) → access ≡ Read
+        (mid : Machine k) (warp_rows : List WarpRow) (queue : List Request) (value : ℕ) (access : Access) → access ≡ Read
         → mid ≡ reads m w line → value ≡ memory_value m line
-        → lanes ≡ settles_it (Value value) mid.lanes → queue ≡ without mid.queue w
-        → built mid.lines mid.book lanes queue ≡ comes_through m w line access
-    read_through mid lanes queue value access is e v a b =
-        settled_is mid lanes queue (Value value) a b
+        → warp_rows ≡ settles_it (Value value) mid.warp_rows → queue ≡ without mid.queue w
+        → built mid.lines mid.book warp_rows queue ≡ comes_through m w line access
+    read_through mid warp_rows queue value access is e v a b =
+        settled_is mid warp_rows queue (Value value) a b
         ∙ ap (λ x. settles x w (Value value)) (read_served mid access is e)
         ∙ ap (settles (serves m w line access).machine w) (read_value value access is v)
 
     -- Settling and logging do not get in each other's way.
     settle_then_log :
-        (ls : List Lane) (value : ℕ) (outcome : Outcome)
+        (ls : List WarpRow) (value : ℕ) (outcome : Outcome)
         → logs_it value (settles_it outcome ls) ≡ settles_it outcome (logs_it value ls)
     settle_then_log ls value outcome =
         ⊎_elim
         (λ low.
-        let here : lane_at (settles_it outcome ls) w ≡ in_phase (lane_at ls w) (Settled outcome) =
-        get_or-set_same ls w (in_phase (lane_at ls w) (Settled outcome)) (idle_at 0) low in
-        let there : lane_at (logs_it value ls) w ≡ logging (lane_at ls w) line value =
-        get_or-set_same ls w (logging (lane_at ls w) line value) (idle_at 0) low in
+        let here : warp_row_at (settles_it outcome ls) w ≡ in_phase (warp_row_at ls w) (Settled outcome) =
+        get_or-set_same ls w (in_phase (warp_row_at ls w) (Settled outcome)) (idle_at 0) low in
+        let there : warp_row_at (logs_it value ls) w ≡ logging (warp_row_at ls w) line value =
+        get_or-set_same ls w (logging (warp_row_at ls w) line value) (idle_at 0) low in
         set-set ls w _ _
         ∙ ap (λ l. set ls w (logging l line value)) here
         ∙ ap (λ l. set ls w (in_phase l (Settled outcome))) (sym there)
@@ -137,47 +137,47 @@ module _ {k : Kind} where
         (cases_lt w (length ls))
 
     pub write_through :
-        (mid : Machine k) (settled lanes : List Lane) (left queue : List Request) (value : ℕ) (access : Access)
+        (mid : Machine k) (settled warp_rows : List WarpRow) (left queue : List Request) (value : ℕ) (access : Access)
         → access ≡ Write value → mid ≡ reserving m w line
-        → settled ≡ settles_it Stored mid.lanes → left ≡ without mid.queue w
-        → lanes ≡ logs_it value settled → queue ≡ left
-        → built mid.lines mid.book lanes queue ≡ comes_through m w line access
-    write_through mid settled lanes left queue value access is e a b c d =
-        settled_is (built mid.lines mid.book (logs_it value mid.lanes) mid.queue)
-        lanes queue Stored
-        (c ∙ ap (logs_it value) a ∙ settle_then_log mid.lanes value Stored) (d ∙ b)
+        → settled ≡ settles_it Stored mid.warp_rows → left ≡ without mid.queue w
+        → warp_rows ≡ logs_it value settled → queue ≡ left
+        → built mid.lines mid.book warp_rows queue ≡ comes_through m w line access
+    write_through mid settled warp_rows left queue value access is e a b c d =
+        settled_is (built mid.lines mid.book (logs_it value mid.warp_rows) mid.queue)
+        warp_rows queue Stored
+        (c ∙ ap (logs_it value) a ∙ settle_then_log mid.warp_rows value Stored) (d ∙ b)
         ∙ ap (λ x. settles x w Stored)
-        (write_served mid (logs_it value mid.lanes) mid.queue value access is e refl refl)
+        (write_served mid (logs_it value mid.warp_rows) mid.queue value access is e refl refl)
         ∙ ap (settles (serves m w line access).machine w) (write_stored value access is)
 
     -- Once it has come out, the warp does not wait, and its log is as long as before.
-    pub settled_free : (ls settled : List Lane) (outcome : Outcome) → settled ≡ settles_it outcome ls
-        → is_waiting (lane_at settled w).phase ≡ false
+    pub settled_free : (ls settled : List WarpRow) (outcome : Outcome) → settled ≡ settles_it outcome ls
+        → is_waiting (warp_row_at settled w).phase ≡ false
     settled_free ls settled outcome e =
-        ap (λ s. is_waiting (lane_at s w).phase) e
+        ap (λ s. is_waiting (warp_row_at s w).phase) e
         ∙ ⊎_elim
-        (λ low. ap (λ (l : Lane). is_waiting l.phase) (get_or-set_same ls w _ (idle_at 0) low))
-        (λ past. ap (λ (l : Lane). is_waiting l.phase)
+        (λ low. ap (λ (l : WarpRow). is_waiting l.phase) (get_or-set_same ls w _ (idle_at 0) low))
+        (λ past. ap (λ (l : WarpRow). is_waiting l.phase)
         (get_or_past (settles_it outcome ls) w (idle_at 0)
-        (let z = length-set ls w (in_phase (lane_at ls w) (Settled outcome)) in omega arith)))
+        (let z = length-set ls w (in_phase (warp_row_at ls w) (Settled outcome)) in omega arith)))
         (cases_lt w (length ls))
 
-    pub settled_log : (ls settled : List Lane) (outcome : Outcome) → settled ≡ settles_it outcome ls
-        → (lane_at settled w).log ≡ (lane_at ls w).log
+    pub settled_log : (ls settled : List WarpRow) (outcome : Outcome) → settled ≡ settles_it outcome ls
+        → (warp_row_at settled w).log ≡ (warp_row_at ls w).log
     settled_log ls settled outcome e =
-        ap (λ s. (lane_at s w).log) e
+        ap (λ s. (warp_row_at s w).log) e
         ∙ ⊎_elim
-        (λ low. ap (λ (l : Lane). l.log) (get_or-set_same ls w _ (idle_at 0) low))
-        (λ past. ap (λ s. (lane_at s w).log) (set_past ls w (in_phase (lane_at ls w) (Settled outcome)) past))
+        (λ low. ap (λ (l : WarpRow). l.log) (get_or-set_same ls w _ (idle_at 0) low))
+        (λ past. ap (λ s. (warp_row_at s w).log) (set_past ls w (in_phase (warp_row_at ls w) (Settled outcome)) past))
         (cases_lt w (length ls))
 
     -- So it still has room for the store.
     pub room_stays :
-        (before after : List Lane) (outcome : Outcome) → after ≡ settles_it outcome before → before ≡ m.lanes
-        → (access : Access) (value : ℕ) → access ≡ Write value → has_room (lane_of m w) access ≡ true
-        → length (lane_at after w).log < 32
+        (before after : List WarpRow) (outcome : Outcome) → after ≡ settles_it outcome before → before ≡ m.warp_rows
+        → (access : Access) (value : ℕ) → access ≡ Write value → has_room (warp_row_of m w) access ≡ true
+        → length (warp_row_at after w).log < 32
     room_stays before after outcome e same access value is room =
-        let long : length (lane_at after w).log ≡ length (lane_of m w).log =
-        ap length (settled_log before after outcome e ∙ ap (λ ls. (lane_at ls w).log) same) in
-        let less = ltb-true (length (lane_of m w).log) 32 (subst (λ a. has_room (lane_of m w) a ≡ true) is room) in
+        let long : length (warp_row_at after w).log ≡ length (warp_row_of m w).log =
+        ap length (settled_log before after outcome e ∙ ap (λ ls. (warp_row_at ls w).log) same) in
+        let less = ltb-true (length (warp_row_of m w).log) 32 (subst (λ a. has_room (warp_row_of m w) a ≡ true) is room) in
         omega arith

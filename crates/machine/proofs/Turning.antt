@@ -10,7 +10,7 @@ use Rattle.rules.specs.Access.{Told, Verdict, told, retried, own_line, lost, mus
 use Rattle.rules.specs.Queue.{product, pending, placed, by_stamp, requests_on}
 use Rattle.rules.specs.State.{Machine, time_of}
 use Rattle.rules.specs.Ending.{Woken, tried, retries, tries, wakes, settles, lets_go, ends, logged_lines}
-use Rattle.rules.specs.State.{lane_of}
+use Rattle.rules.specs.State.{warp_row_of}
 use Rattle.rules.specs.declared.state.Access.{Access}
 use Rattle.rules.specs.declared.state.Request.{Request}
 use Rattle.tables.specs.Pages.{put_in, turns_at}
@@ -64,23 +64,23 @@ module _ {k : Kind} where
 
   pub ends_is :
       (m : Machine k) (w stamp : ℕ)
-      → (ends (product k) m w stamp).machine ≡ fold wake_at (lets_go m w stamp) (logged_lines (lane_of m w).log)
+      → (ends (product k) m w stamp).machine ≡ fold wake_at (lets_go m w stamp) (logged_lines (warp_row_of m w).log)
   unfolding ends
-  ends_is m w stamp = all_wakes (none_yet (lets_go m w stamp)) (logged_lines (lane_of m w).log)
+  ends_is m w stamp = all_wakes (none_yet (lets_go m w stamp)) (logged_lines (warp_row_of m w).log)
 
   -- The turns of a line are the product's.
-  placed_is : (m : Machine k) (ws : List ℕ) (w : ℕ) → put_in m.lanes ws w ≡ placed m ws w
+  placed_is : (m : Machine k) (ws : List ℕ) (w : ℕ) → put_in m.warp_rows ws w ≡ placed m ws w
   placed_is m [] w = refl
   placed_is m (v ∷ rest) w =
-      ap (cond (ltb (lane_of m w).stamp (lane_of m v).stamp) (w ∷ v ∷ rest)) (ap (λ ws. v ∷ ws) (placed_is m rest w))
+      ap (cond (ltb (warp_row_of m w).stamp (warp_row_of m v).stamp) (w ∷ v ∷ rest)) (ap (λ ws. v ∷ ws) (placed_is m rest w))
 
   all_placed :
-      (m : Machine k) (acc ws : List ℕ) → fold (put_in m.lanes) acc ws ≡ fold (placed m) acc ws
+      (m : Machine k) (acc ws : List ℕ) → fold (put_in m.warp_rows) acc ws ≡ fold (placed m) acc ws
   all_placed m acc [] = refl
   all_placed m acc (w ∷ ws) =
-      all_placed m (put_in m.lanes acc w) ws ∙ ap (λ a. fold (placed m) a ws) (placed_is m acc w)
+      all_placed m (put_in m.warp_rows acc w) ws ∙ ap (λ a. fold (placed m) a ws) (placed_is m acc w)
 
-  pub turns_are : (m : Machine k) (line : ℕ) → turns_at m.lanes m.queue line ≡ by_stamp m line
+  pub turns_are : (m : Machine k) (line : ℕ) → turns_at m.warp_rows m.queue line ≡ by_stamp m line
   turns_are m line = all_placed m [] (map (λ (r : Request). r.warp) (requests_on m.queue line))
 
   -- Where nobody waits there are no turns.

@@ -15,7 +15,7 @@ use Rattle.book.specs.Meaning.{Kind, released, taken}
 use Rattle.protocol.specs.Limits.{log_limit, last_stamp}
 use Rattle.protocol.specs.declared.fault.Refusal.TheVariants.{LogFull, ClockSpent}
 use Rattle.rules.specs.Lists.{last_stored}
-use Rattle.rules.specs.State.{Lane, Machine, with_lines, with_book, with_lane, with_queue, in_phase, time_of, lane_of}
+use Rattle.rules.specs.State.{WarpRow, Machine, with_lines, with_book, with_warp_row, with_queue, in_phase, time_of, warp_row_of}
 use Rattle.rules.specs.Access.{Verdict, lost, must_wait}
 use Rattle.rules.specs.Queue.{product, is_full, without}
 use Rattle.rules.specs.Ending.{Woken, settles, tries, wakes}
@@ -42,7 +42,7 @@ module _ {k : Kind} where
   -- A request comes out with an outcome, which its warp may fetch.
   abbrev pub coming_out : Machine k → ℕ → Outcome → Machine k
   coming_out m w outcome =
-      with_queue (with_lane m w (in_phase (lane_of m w) (Settled outcome))) (without m.queue w)
+      with_queue (with_warp_row m w (in_phase (warp_row_of m w) (Settled outcome))) (without m.queue w)
 
   -- What a turn at a line leaves, and all turns at it.
   abbrev pub try_at : ℕ → Machine k → ℕ → Machine k
@@ -53,7 +53,7 @@ module _ {k : Kind} where
 
   -- The last value that a warp logged for a line, or else the line's.
   abbrev pub own_value : Machine k → ℕ → ℕ → ℕ
-  own_value m w line = unwrap_or (last_stored (lane_of m w).log line) (memory_value m line)
+  own_value m w line = unwrap_or (last_stored (warp_row_of m w).log line) (memory_value m line)
 
   -- A line reserved for a warp's transaction.
   abbrev pub reserving : Machine k → ℕ → ℕ → Machine k
@@ -70,26 +70,26 @@ module _ {k : Kind} where
   -- A request that would wait.
   abbrev pub in_queue : Machine k → ℕ → ℕ → Access → Step k
   in_queue m w line access =
-      accessed (product k) m w line access (if_room (is_full 4 4 m.queue line) (lane_of m w).stamp)
+      accessed (product k) m w line access (if_room (is_full 4 4 m.queue line) (warp_row_of m w).stamp)
 
   -- A request joins the queue, behind all others; its warp waits.
   abbrev pub joining : Machine k → Request → Machine k
-  joining m r = with_queue (with_lane m r.warp (in_phase (lane_of m r.warp) Waiting)) (m.queue ++ r ∷ [])
+  joining m r = with_queue (with_warp_row m r.warp (in_phase (warp_row_of m r.warp) Waiting)) (m.queue ++ r ∷ [])
 
   -- A step of the product's machine.
   abbrev pub next : Machine k → ℕ → Op → Step k
   next m w op = step (product k) m (record { warp = w; op = op })
 
 -- A full log, and a clock that is spent.
-abbrev pub room_fault : Lane → Option Fault
+abbrev pub room_fault : WarpRow → Option Fault
 room_fault l = unless (nat_lt (length l.log) log_limit) LogFull (length l.log)
 
-abbrev pub clock_fault : Lane → Option Fault
+abbrev pub clock_fault : WarpRow → Option Fault
 clock_fault l = unless (nat_le l.stamp last_stamp) ClockSpent l.stamp
 
 -- What a warp that the machine has may be refused for.
 abbrev pub asked_fault : {k : Kind} → Machine k → ℕ → Op → Option Fault
-asked_fault m w op = option_or (faulty (phase_refuses (lane_of m w).phase op) w) (number_fault m w op)
+asked_fault m w op = option_or (faulty (phase_refuses (warp_row_of m w).phase op) w) (number_fault m w op)
 
 -- A refusal, if there is one, as a result.
 abbrev pub passed : Option Fault → Result (Unit {0}) Fault

@@ -7,7 +7,7 @@ ghost use Rattle.rules.specs.Access.{told};
 ghost use Rattle.rules.specs.State.{is_waiting, time_of};
 ghost use Rattle.rules.specs.Ending.{ends};
 ghost use Rattle.rules.specs.Steps.{accesses, fetched, fetches};
-ghost use Rattle.tables.specs.Pages.{lanes, lane, has_room};
+ghost use Rattle.tables.specs.Pages.{warp_rows, warp_row, has_room};
 ghost use Rattle.machine.specs.Meaning.{state};
 ghost use Rattle.machine.specs.Moves.{in_queue, joining};
 ghost use Rattle.machine.specs.Verdicts.{told_as};
@@ -39,7 +39,7 @@ impl<M: Memory, B: Book> Machine<M, B> {
 
     /// The transaction is gone: it ends, and its warp goes on at the next stamp.
     fn lose(&mut self, warp: u32, cause: Cause, next: u64) -> Answer
-        requires { is_waiting (lane self.old.tables warp).phase ≡ false }
+        requires { is_waiting (warp_row self.old.tables warp).phase ≡ false }
         ensures after { state M.Memory.at B.Book.kind B.Book.model self.new
             ≡ (ends (product B.Book.kind) (state M.Memory.at B.Book.kind B.Book.model self.old)
             warp next).machine }
@@ -51,9 +51,9 @@ impl<M: Memory, B: Book> Machine<M, B> {
 
     /// A request joins the queue, and notes nothing yet.
     fn join_queue(&mut self, request: Request)
-        requires known { request.warp < length (lanes self.old.tables) }
-        requires free { is_waiting (lane self.old.tables request.warp).phase ≡ false }
-        requires room { has_room (lane self.old.tables request.warp) request.access ≡ true }
+        requires known { request.warp < length (warp_rows self.old.tables) }
+        requires free { is_waiting (warp_row self.old.tables request.warp).phase ≡ false }
+        requires room { has_room (warp_row self.old.tables request.warp) request.access ≡ true }
         ensures { state M.Memory.at B.Book.kind B.Book.model self.new
             ≡ joining (state M.Memory.at B.Book.kind B.Book.model self.old) request }
     {
@@ -62,9 +62,9 @@ impl<M: Memory, B: Book> Machine<M, B> {
 
     /// A load or a store that would wait: if the queue is full for the line, its transaction ends at its own stamp.
     fn wait_or_lose(&mut self, request: Request) -> Answer
-        requires known { request.warp < length (lanes self.old.tables) }
-        requires free { is_waiting (lane self.old.tables request.warp).phase ≡ false }
-        requires room { has_room (lane self.old.tables request.warp) request.access ≡ true }
+        requires known { request.warp < length (warp_rows self.old.tables) }
+        requires free { is_waiting (warp_row self.old.tables request.warp).phase ≡ false }
+        requires room { has_room (warp_row self.old.tables request.warp) request.access ≡ true }
         ensures after { state M.Memory.at B.Book.kind B.Book.model self.new
             ≡ (in_queue (state M.Memory.at B.Book.kind B.Book.model self.old) request.warp
             request.line request.access).machine }
@@ -85,9 +85,9 @@ impl<M: Memory, B: Book> Machine<M, B> {
     /// A load or a store of a warp that may go on.
     pub(crate) fn access(&mut self, request: Request) -> Answer
         requires inside { request.line < line_limit }
-        requires known { request.warp < length (lanes self.old.tables) }
-        requires free { is_waiting (lane self.old.tables request.warp).phase ≡ false }
-        requires room { has_room (lane self.old.tables request.warp) request.access ≡ true }
+        requires known { request.warp < length (warp_rows self.old.tables) }
+        requires free { is_waiting (warp_row self.old.tables request.warp).phase ≡ false }
+        requires room { has_room (warp_row self.old.tables request.warp) request.access ≡ true }
         ensures after { state M.Memory.at B.Book.kind B.Book.model self.new
             ≡ (accesses (product B.Book.kind)
             (state M.Memory.at B.Book.kind B.Book.model self.old) request.warp request.line
@@ -107,7 +107,7 @@ impl<M: Memory, B: Book> Machine<M, B> {
 
     /// Hands over a settled outcome: after a value or a store the warp goes on; gone, its transaction ends.
     fn hand_over(&mut self, warp: u32, outcome: Outcome) -> Answer
-        requires { is_waiting (lane self.old.tables warp).phase ≡ false }
+        requires { is_waiting (warp_row self.old.tables warp).phase ≡ false }
         ensures after { state M.Memory.at B.Book.kind B.Book.model self.new
             ≡ (fetched (product B.Book.kind)
             (state M.Memory.at B.Book.kind B.Book.model self.old) warp outcome).machine }
@@ -127,11 +127,11 @@ impl<M: Memory, B: Book> Machine<M, B> {
         ensures after { state M.Memory.at B.Book.kind B.Book.model self.new
             ≡ (fetches (product B.Book.kind)
             (state M.Memory.at B.Book.kind B.Book.model self.old) warp
-            (lane self.old.tables warp).phase).machine }
+            (warp_row self.old.tables warp).phase).machine }
         ensures answer { result
             ≡ (fetches (product B.Book.kind)
             (state M.Memory.at B.Book.kind B.Book.model self.old) warp
-            (lane self.old.tables warp).phase).answer }
+            (warp_row self.old.tables warp).phase).answer }
     {
         match self.tables.phase(warp) {
             Phase::Settled { outcome } => self.hand_over(warp, outcome),

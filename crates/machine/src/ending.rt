@@ -3,7 +3,7 @@ ghost use Rattle.std.specs.Prelude.{◌≡◌, false, map, fold};
 ghost use Rattle.rules.specs.Queue.{product};
 ghost use Rattle.rules.specs.State.{is_waiting};
 ghost use Rattle.rules.specs.Ending.{ends};
-ghost use Rattle.tables.specs.Pages.{lane};
+ghost use Rattle.tables.specs.Pages.{warp_row};
 ghost use Rattle.tables.specs.Rows.{pair_of, lines_in};
 ghost use Rattle.machine.specs.Meaning.{state};
 ghost use Rattle.machine.specs.Moves.{wake_at};
@@ -28,7 +28,7 @@ impl<M: Memory, B: Book> Machine<M, B> {
 
     /// Ends a warp's transaction: the warp is idle at a stamp.
     pub(crate) fn end(&mut self, warp: u32, stamp: u64)
-        requires { is_waiting (lane self.old.tables warp).phase ≡ false }
+        requires { is_waiting (warp_row self.old.tables warp).phase ≡ false }
         ensures { state M.Memory.at B.Book.kind B.Book.model self.new
             ≡ (ends (product B.Book.kind) (state M.Memory.at B.Book.kind B.Book.model self.old)
             warp stamp).machine }

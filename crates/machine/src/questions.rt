@@ -5,7 +5,7 @@ ghost use Rattle.memory.specs.Lines.{no_line};
 ghost use Rattle.rules.specs.Access.{told};
 ghost use Rattle.rules.specs.Queue.{request_of};
 ghost use Rattle.tables.specs.Lists.{place_at};
-ghost use Rattle.tables.specs.Pages.{lanes, queued, lane};
+ghost use Rattle.tables.specs.Pages.{warp_rows, queued, warp_row};
 ghost use Rattle.tables.specs.Rows.{log_of};
 ghost use Rattle.machine.specs.Verdicts.{told_as};
 ghost use Rattle.machine.specs.Outcomes.{outcome_of};
@@ -32,35 +32,35 @@ fn outcome_of(phase: Phase) -> Option<Outcome>
 impl<M: Memory, B: Book> Machine<M, B> {
     /// How many warps there are.
     pub fn warps(&self) -> usize
-        ensures { result ≡ length (lanes self.now.tables) }
+        ensures { result ≡ length (warp_rows self.now.tables) }
     {
         self.tables.warps()
     }
 
     /// What a warp is doing.
     pub fn phase(&self, warp: u32) -> Phase
-        ensures { result ≡ (lane self.now.tables warp).phase }
+        ensures { result ≡ (warp_row self.now.tables warp).phase }
     {
         self.tables.phase(warp)
     }
 
     /// A warp's stamp.
     pub fn stamp(&self, warp: u32) -> u64
-        ensures { result ≡ (lane self.now.tables warp).stamp }
+        ensures { result ≡ (warp_row self.now.tables warp).stamp }
     {
         self.tables.stamp(warp)
     }
 
     /// What a warp has stored and not yet committed.
     pub fn log(&self, warp: u32) -> Log
-        ensures { log_of result ≡ (lane self.now.tables warp).log }
+        ensures { log_of result ≡ (warp_row self.now.tables warp).log }
     {
         self.tables.log(warp)
     }
 
     /// The outcome that a warp may fetch.
     pub fn outcome(&self, warp: u32) -> Option<Outcome>
-        ensures { result ≡ outcome_of (lane self.now.tables warp).phase }
+        ensures { result ≡ outcome_of (warp_row self.now.tables warp).phase }
     {
         outcome_of(self.tables.phase(warp))
     }

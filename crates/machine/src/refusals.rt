@@ -3,7 +3,7 @@ ghost use Rattle.std.specs.Prelude.{◌≡◌, length, nat_lt};
 ghost use Rattle.protocol.specs.declared.fault.Refusal.TheVariants.{NoSuchWarp, NoSuchLine, LogFull, ClockSpent};
 ghost use Rattle.rules.specs.Refusals.{phase_refuses};
 ghost use Rattle.rules.specs.Refusals.{faulty, unless, has_line, number_fault, fault_of};
-ghost use Rattle.tables.specs.Pages.{lanes, lane};
+ghost use Rattle.tables.specs.Pages.{warp_rows, warp_row};
 ghost use Rattle.machine.specs.Meaning.{state};
 ghost use Rattle.machine.specs.Moves.{passed, room_fault, clock_fault, asked_fault};
 
@@ -32,7 +32,7 @@ fn phase_refuses(phase: Phase, op: Op) -> Option<Refusal>
 impl<M: Memory, B: Book> Machine<M, B> {
     /// The warp is one of the machine's.
     fn check_warp(&self, warp: u32) -> Result<(), Fault>
-        ensures { result ≡ passed (unless (nat_lt warp (length (lanes self.now.tables))) NoSuchWarp warp) }
+        ensures { result ≡ passed (unless (nat_lt warp (length (warp_rows self.now.tables))) NoSuchWarp warp) }
     {
         if warp as usize >= self.tables.warps() {
             return Err(Fault::in_call(Refusal::NoSuchWarp, u64::from(warp)));
@@ -44,7 +44,7 @@ impl<M: Memory, B: Book> Machine<M, B> {
     /// The warp may ask for this in its phase.
     fn check_phase(&self, call: Call) -> Result<(), Fault>
         ensures { result ≡ passed
-            (faulty (phase_refuses (lane self.now.tables call.warp).phase call.op) call.warp) }
+            (faulty (phase_refuses (warp_row self.now.tables call.warp).phase call.op) call.warp) }
     {
         match phase_refuses(self.tables.phase(call.warp), call.op) {
             Some(why) => Err(Fault::in_call(why, u64::from(call.warp))),
@@ -67,7 +67,7 @@ impl<M: Memory, B: Book> Machine<M, B> {
 
     /// The warp's log has room for one store more.
     fn check_room(&self, warp: u32) -> Result<(), Fault>
-        ensures { result ≡ passed (room_fault (lane self.now.tables warp)) }
+        ensures { result ≡ passed (room_fault (warp_row self.now.tables warp)) }
     {
         let stored = self.tables.stored(warp);
         if stored >= STORES {
@@ -78,7 +78,7 @@ impl<M: Memory, B: Book> Machine<M, B> {
 
     /// The warp's stamp is not past the end of the clock.
     fn check_clock(&self, warp: u32) -> Result<(), Fault>
-        ensures { result ≡ passed (clock_fault (lane self.now.tables warp)) }
+        ensures { result ≡ passed (clock_fault (warp_row self.now.tables warp)) }
     {
         let stamp = self.tables.stamp(warp);
         if stamp > u64::from(LAST_STAMP) {

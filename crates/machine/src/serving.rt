@@ -3,7 +3,7 @@ ghost use Rattle.std.specs.Prelude.{◌≡◌, ◌<◌, true, false, length};
 ghost use Rattle.protocol.specs.Limits.{line_limit};
 ghost use Rattle.rules.specs.State.{is_waiting};
 ghost use Rattle.rules.specs.Serving.{serves, serves_own};
-ghost use Rattle.tables.specs.Pages.{lane, has_room};
+ghost use Rattle.tables.specs.Pages.{warp_row, has_room};
 ghost use Rattle.machine.specs.Meaning.{state};
 ghost use Rattle.machine.specs.Moves.{coming_out, try_at, wake_at, comes_through};
 
@@ -21,8 +21,8 @@ impl<M: Memory, B: Book> Machine<M, B> {
     /// On a line that is nobody's: a load gives the memory's value, a store reserves the line.
     pub(crate) fn serve(&mut self, request: Request) -> Outcome
         requires inside { request.line < line_limit }
-        requires free { is_waiting (lane self.old.tables request.warp).phase ≡ false }
-        requires room { has_room (lane self.old.tables request.warp) request.access ≡ true }
+        requires free { is_waiting (warp_row self.old.tables request.warp).phase ≡ false }
+        requires room { has_room (warp_row self.old.tables request.warp) request.access ≡ true }
         ensures after { state M.Memory.at B.Book.kind B.Book.model self.new
             ≡ (serves (state M.Memory.at B.Book.kind B.Book.model self.old) request.warp
             request.line request.access).machine }
@@ -50,8 +50,8 @@ impl<M: Memory, B: Book> Machine<M, B> {
     /// On the warp's own line: a load gives the last value that it logged there, a store is added to the count.
     pub(crate) fn serve_own(&mut self, request: Request) -> Outcome
         requires inside { request.line < line_limit }
-        requires free { is_waiting (lane self.old.tables request.warp).phase ≡ false }
-        requires room { has_room (lane self.old.tables request.warp) request.access ≡ true }
+        requires free { is_waiting (warp_row self.old.tables request.warp).phase ≡ false }
+        requires room { has_room (warp_row self.old.tables request.warp) request.access ≡ true }
         ensures after { state M.Memory.at B.Book.kind B.Book.model self.new
             ≡ (serves_own (state M.Memory.at B.Book.kind B.Book.model self.old) request.warp
             request.line request.access).machine }
@@ -79,7 +79,7 @@ impl<M: Memory, B: Book> Machine<M, B> {
     /// The same for a request that waited: its warp has the outcome to fetch.
     fn serve_waiting(&mut self, request: Request)
         requires inside { request.line < line_limit }
-        requires room { has_room (lane self.old.tables request.warp) request.access ≡ true }
+        requires room { has_room (warp_row self.old.tables request.warp) request.access ≡ true }
         ensures { state M.Memory.at B.Book.kind B.Book.model self.new
             ≡ comes_through (state M.Memory.at B.Book.kind B.Book.model self.old) request.warp
             request.line request.access }

@@ -5,7 +5,7 @@ use Rattle.protocol.specs.declared.fault.Fault.{Fault}
 use Rattle.memory.specs.Lines.{Lines}
 use Rattle.book.specs.Meaning.{Kind}
 use Rattle.rules.specs.State.{Machine}
-use Rattle.rules.specs.Making.{making_fault, first_lanes, make}
+use Rattle.rules.specs.Making.{making_fault, first_warp_rows, make}
 use Rattle.rules.specs.Runs.{run}
 use Rattle.rules.specs.Transactions.{named}
 use Rattle.rules.specs.Ledger.{Ledger, new_ledger, ledger_of}
@@ -67,7 +67,7 @@ law_of_accounts k keeps policy lines book good stamps calls = by_fault (making_f
     by_fault (Some f) e =
         let kept =
         refused_stays k policy calls (record { machine = make k lines book stamps; events = [] })
-        (ap (λ o. first_lanes o stamps) e) refl
+        (ap (λ o. first_warp_rows o stamps) e) refl
         in
         subst (λ l. AccountsAgree lines l (run policy (make k lines book stamps) calls).machine.lines)
         (sym kept.1)

@@ -24,7 +24,7 @@ use Rattle.rules.specs.declared.state.Phase.{Phase}
 use Rattle.rules.specs.declared.state.Phase.TheVariants.{Idle, Open, Waiting, Settled}
 use Rattle.rules.specs.declared.state.Request.{Request}
 use Rattle.rules.specs.Lists.{has}
-use Rattle.rules.specs.State.{Machine, idle_at, is_idle, is_waiting, lane_of, time_of}
+use Rattle.rules.specs.State.{Machine, idle_at, is_idle, is_waiting, warp_row_of, time_of}
 use Rattle.rules.specs.Access.{Verdict, told, own_line, lost, must_wait, go_on}
 use Rattle.rules.specs.Queue.{Policy, request_of, is_full}
 use Rattle.rules.specs.Refusals.{phase_refuses, faulty, unless, has_line, number_fault, fault_of}
@@ -33,7 +33,7 @@ use Rattle.rules.specs.Steps.{ended, Step, writes_back, accessed, accesses, verd
 use Rattle.rules.specs.Steps.{checked, step}
 use Rattle.rules.specs.Runs.{Run, event_of, goes_on}
 use Rattle.rules.specs.Ending.{ends}
-use Rattle.rules.specs.Making.{making_fault, first_lanes, make}
+use Rattle.rules.specs.Making.{making_fault, first_warp_rows, make}
 use Rattle.rules.specs.Transactions.{Transaction, writes, named}
 use Rattle.rules.specs.Ledger.{ends_here, commits, Ledger, settles_one, says, hears, new_ledger, ledger_of}
 use Rattle.rules.proofs.Verdicts.{Means, decide_means}
@@ -108,9 +108,9 @@ module _ (k : Kind) (first : Lines) (keeps : Keeps k) (policy : Policy k) (E₀ 
       -- What a call leaves, with what the account hears of it.
       abbrev Kept : Op → Step k → Type 0
       Kept op s =
-          Inv k first E s.machine (fold settles_one (says l w (lane_of m w).stamp op s.answer) s.settled)
+          Inv k first E s.machine (fold settles_one (says l w (warp_row_of m w).stamp op s.answer) s.settled)
 
-      module _ (tx : Transaction) (mine : l.current w ≡ Some tx) (calm : is_waiting (lane_of m w).phase ≡ false) where
+      module _ (tx : Transaction) (mine : l.current w ≡ Some tx) (calm : is_waiting (warp_row_of m w).phase ≡ false) where
         gone_keeps :
             (op : Op) (cause : Cause) (next : ℕ)
             → Kept op (ended (ends policy m w next) (Gone cause next))
@@ -120,7 +120,7 @@ module _ (k : Kind) (first : Lines) (keeps : Keeps k) (policy : Policy k) (E₀ 
 
         accessed_keeps :
             (line : ℕ) → line < line_limit → is_some (first line) ≡ true → (access : Access) (v : Verdict)
-            → Room access (lane_of m w)
+            → Room access (warp_row_of m w)
             → Means (k.owner m.book line ≡ Some w) access (told k m.book line) (time_of m w) v
             → Kept (op_of access line) (accessed policy m w line access v)
         unfolding accessed serves serves_own
@@ -137,7 +137,7 @@ module _ (k : Kind) (first : Lines) (keeps : Keeps k) (policy : Policy k) (E₀ 
             serves_keeps k first keeps E m l I w tx mine line low there (Write value) go
 
         accesses_keeps :
-            (line : ℕ) → has_line m line ≡ true → (access : Access) → Room access (lane_of m w)
+            (line : ℕ) → has_line m line ≡ true → (access : Access) → Room access (warp_row_of m w)
             → Kept (op_of access line) (accesses policy m w line access)
         accesses_keeps line h access room =
             let p = and_parts (ltb line line_limit) (is_some (m.lines line)) h in
@@ -155,18 +155,18 @@ module _ (k : Kind) (first : Lines) (keeps : Keeps k) (policy : Policy k) (E₀ 
         commit_keeps : Kept Commit (granted policy m w Commit)
         commit_keeps =
             ends_keeps k first keeps (commits l w) policy E₀ covers (writes_back m w) w
-            (lane_of m w).stamp (commits_keep k first keeps E m l I w tx mine (lane_of m w).stamp calm)
+            (warp_row_of m w).stamp (commits_keep k first keeps E m l I w tx mine (warp_row_of m w).stamp calm)
 
         drop_keeps : Kept Drop (granted policy m w Drop)
         drop_keeps =
-            ends_keeps k first keeps (ends_here l w) policy E₀ covers m w (lane_of m w).stamp
-            (ends_keep k first keeps E m l I w tx mine (lane_of m w).stamp calm)
+            ends_keeps k first keeps (ends_here l w) policy E₀ covers m w (warp_row_of m w).stamp
+            (ends_keep k first keeps E m l I w tx mine (warp_row_of m w).stamp calm)
 
-      its : is_idle (lane_of m w).phase ≡ false → (tx : Transaction) × (l.current w ≡ Some tx)
-      its e = has_transaction (lane_of m w) (l.current w) (I.lanes w) e
+      its : is_idle (warp_row_of m w).phase ≡ false → (tx : Transaction) × (l.current w ≡ Some tx)
+      its e = has_transaction (warp_row_of m w) (l.current w) (I.warp_rows w) e
 
       fetches_keeps :
-          (p : Phase) → (lane_of m w).phase ≡ p → phase_refuses p Fetch ≡ None
+          (p : Phase) → (warp_row_of m w).phase ≡ p → phase_refuses p Fetch ≡ None
           → Kept Fetch (fetches policy m w p)
       fetches_keeps Idle e r = I
       fetches_keeps Open e r = I
@@ -175,31 +175,31 @@ module _ (k : Kind) (first : Lines) (keeps : Keeps k) (policy : Policy k) (E₀ 
           let t = its (ap is_idle e) in fetched_keeps t.0 t.1 (ap is_waiting e) outcome
 
       granted_keeps :
-          (op : Op) → w < length m.lanes → phase_refuses (lane_of m w).phase op ≡ None
+          (op : Op) → w < length m.warp_rows → phase_refuses (warp_row_of m w).phase op ≡ None
           → number_fault m w op ≡ None → Kept op (granted policy m w op)
       granted_keeps Begin low phase number =
-          begin_keeps k first keeps E m l I w low (begin_idle (lane_of m w).phase phase)
-          (leb-true (lane_of m w).stamp last_stamp (unless_none (leb (lane_of m w).stamp last_stamp) _ _ number))
+          begin_keeps k first keeps E m l I w low (begin_idle (warp_row_of m w).phase phase)
+          (leb-true (warp_row_of m w).stamp last_stamp (unless_none (leb (warp_row_of m w).stamp last_stamp) _ _ number))
       granted_keeps (Load line) low phase number =
-          let o = load_open line (lane_of m w).phase phase in
+          let o = load_open line (warp_row_of m w).phase phase in
           let t = its o.0 in
           accesses_keeps t.0 t.1 o.1 line (unless_none (has_line m line) _ _ number) Read tt
       granted_keeps (Store line v) low phase number =
-          let o = store_open line v (lane_of m w).phase phase in
+          let o = store_open line v (warp_row_of m w).phase phase in
           let t = its o.0 in
           let n = or_none (unless (has_line m line) _ _) _ number in
           accesses_keeps t.0 t.1 o.1 line (unless_none (has_line m line) _ _ n.0) (Write v)
-          (ltb-true (length (lane_of m w).log) log_limit
-          (unless_none (ltb (length (lane_of m w).log) log_limit) _ _ n.1))
+          (ltb-true (length (warp_row_of m w).log) log_limit
+          (unless_none (ltb (length (warp_row_of m w).log) log_limit) _ _ n.1))
       granted_keeps Commit low phase number =
-          let o = commit_open (lane_of m w).phase phase in
+          let o = commit_open (warp_row_of m w).phase phase in
           let t = its o.0 in
           commit_keeps t.0 t.1 o.1
       granted_keeps Drop low phase number =
-          let o = drop_open (lane_of m w).phase phase in
+          let o = drop_open (warp_row_of m w).phase phase in
           let t = its o.0 in
           drop_keeps t.0 t.1 o.1
-      granted_keeps Fetch low phase number = fetches_keeps (lane_of m w).phase refl phase
+      granted_keeps Fetch low phase number = fetches_keeps (warp_row_of m w).phase refl phase
 
     -- A call, refused or not.
     pub step_keeps :
@@ -212,15 +212,15 @@ module _ (k : Kind) (first : Lines) (keeps : Keeps k) (policy : Policy k) (E₀ 
             (o : Option Fault) → fault_of m call ≡ o
             → Inv k first E (checked policy m call o).machine
             (fold settles_one
-            (says l call.warp (lane_of m call.warp).stamp call.op (checked policy m call o).answer)
+            (says l call.warp (warp_row_of m call.warp).stamp call.op (checked policy m call o).answer)
             (checked policy m call o).settled)
         by_fault (Some fault) e = I
         by_fault None e =
-            let a = or_none (unless (ltb call.warp (length m.lanes)) _ _) _ e in
-            let b = or_none (faulty (phase_refuses (lane_of m call.warp).phase call.op) call.warp) _ a.1 in
+            let a = or_none (unless (ltb call.warp (length m.warp_rows)) _ _) _ e in
+            let b = or_none (faulty (phase_refuses (warp_row_of m call.warp).phase call.op) call.warp) _ a.1 in
             granted_keeps m l I call.warp call.op
-            (ltb-true call.warp (length m.lanes) (unless_none (ltb call.warp (length m.lanes)) _ _ a.0))
-            (faulty_none (phase_refuses (lane_of m call.warp).phase call.op) call.warp b.0) b.1
+            (ltb-true call.warp (length m.warp_rows) (unless_none (ltb call.warp (length m.warp_rows)) _ _ a.0))
+            (faulty_none (phase_refuses (warp_row_of m call.warp).phase call.op) call.warp b.0) b.1
 
     -- A run.
     pub run_keeps :
@@ -274,7 +274,7 @@ new_keeps k keeps E₀ lines s good stamps e =
     subst
     (λ o.
     Inv k lines (λ v n. E₀)
-    (record { lines = lines; book = s; lanes = first_lanes o stamps; queue = [] }) new_ledger)
+    (record { lines = lines; book = s; warp_rows = first_warp_rows o stamps; queue = [] }) new_ledger)
     (sym e)
     (record {
       good = good;
@@ -300,7 +300,7 @@ new_keeps k keeps E₀ lines s good stamps e =
             now = λ h tx p. let z : ◌≡◌ {A = ℕ} 0 1 = cc in absurd (omega arith);
             here = λ h tx p. let z : ◌≡◌ {A = ℕ} 0 1 = cc in absurd (omega arith);
           };
-      lanes = λ w. ap is_idle (all_idle stamps w);
+      warp_rows = λ w. ap is_idle (all_idle stamps w);
       size = let q = length-map stamps idle_at in omega arith;
       waiters = λ w p. absurd (both_ways false refl (sym (ap is_waiting (all_idle stamps w)) ∙ p));
       tallied = λ h tx p line x. let z : ◌≡◌ {A = ℕ} 0 1 = cc in absurd (omega arith);
@@ -317,26 +317,26 @@ refusal_changes_nothing k policy m l call f e = (
   ap
       (λ o.
       fold settles_one
-      (says l call.warp (lane_of m call.warp).stamp call.op (checked policy m call o).answer)
+      (says l call.warp (warp_row_of m call.warp).stamp call.op (checked policy m call o).answer)
       (checked policy m call o).settled)
       e,
 )
 
 -- A machine that was refused has no warps, and stays as it is.
 no_warps_refuse :
-    (k : Kind) (m : Machine k) (call : Call) → m.lanes ≡ [] → (f : Fault) × (fault_of m call ≡ Some f)
+    (k : Kind) (m : Machine k) (call : Call) → m.warp_rows ≡ [] → (f : Fault) × (fault_of m call ≡ Some f)
 no_warps_refuse k m call none = (
   fault_in_call NoSuchWarp call.warp,
   ap
       (λ b.
       option_or (cond b None (Some (fault_in_call NoSuchWarp call.warp)))
-      (option_or (faulty (phase_refuses (lane_of m call.warp).phase call.op) call.warp)
+      (option_or (faulty (phase_refuses (warp_row_of m call.warp).phase call.op) call.warp)
       (number_fault m call.warp call.op)))
-      (le-ltb call.warp (length m.lanes) (let z : length m.lanes ≡ 0 = ap length none in omega arith)),
+      (le-ltb call.warp (length m.warp_rows) (let z : length m.warp_rows ≡ 0 = ap length none in omega arith)),
 )
 
 pub refused_stays :
-    (k : Kind) (policy : Policy k) (calls : List Call) (r : Run k) → r.machine.lanes ≡ []
+    (k : Kind) (policy : Policy k) (calls : List Call) (r : Run k) → r.machine.warp_rows ≡ []
     → ledger_of r.events ≡ new_ledger
     → ((fold (goes_on policy) r calls).machine ≡ r.machine)
     × (ledger_of (fold (goes_on policy) r calls).events ≡ new_ledger)
@@ -346,7 +346,7 @@ refused_stays k policy (call ∷ calls) r none e =
     let f = no_warps_refuse k r.machine call none in
     let kept = refusal_changes_nothing k policy r.machine (ledger_of r.events) call f.0 f.1 in
     let rest =
-    refused_stays k policy calls (goes_on policy r call) (ap (λ (m : Machine k). m.lanes) kept.0 ∙ none)
+    refused_stays k policy calls (goes_on policy r call) (ap (λ (m : Machine k). m.warp_rows) kept.0 ∙ none)
     (fold_push hears new_ledger r.events (event_of policy r.machine call) ∙ kept.1 ∙ e)
     in
     (rest.0 ∙ kept.0, rest.1)

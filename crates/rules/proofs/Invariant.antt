@@ -6,7 +6,7 @@ use Rattle.protocol.specs.Limits.{line_limit, last_stamp}
 use Rattle.memory.specs.Lines.{Lines}
 use Rattle.book.specs.Meaning.{Kind, Keeps}
 use Rattle.rules.specs.declared.state.Request.{Request}
-use Rattle.rules.specs.State.{Lane, Machine, is_idle, is_waiting, lane_of}
+use Rattle.rules.specs.State.{WarpRow, Machine, is_idle, is_waiting, warp_row_of}
 use Rattle.rules.specs.Queue.{request_of}
 use Rattle.rules.specs.Transactions.{Deed, Transaction, writes, stores_of}
 use Rattle.rules.specs.Ledger.{Ledger, doing, with_current}
@@ -15,16 +15,16 @@ use Rattle.rules.proofs.Tallies.{Tallied}
 use Rattle.rules.proofs.Ledgers.{hold_in, hold, hold_writes, History}
 use Rattle.rules.proofs.Logs.{busy_low}
 
--- A warp with a transaction: the lane has its stamp and its stores.
-pub record Running (lane : Lane) (tx : Transaction) : Type 0 where
-  pub busy : is_idle lane.phase ≡ false
-  pub same_stamp : tx.stamp ≡ lane.stamp
-  pub same_log : lane.log ≡ stores_of tx.deeds
-  pub in_clock : lane.stamp ≤ last_stamp
+-- A warp with a transaction: the row has its stamp and its stores.
+pub record Running (warp_row : WarpRow) (tx : Transaction) : Type 0 where
+  pub busy : is_idle warp_row.phase ≡ false
+  pub same_stamp : tx.stamp ≡ warp_row.stamp
+  pub same_log : warp_row.log ≡ stores_of tx.deeds
+  pub in_clock : warp_row.stamp ≤ last_stamp
 
-abbrev pub Matches : Lane → Option Transaction → Type 0
-Matches lane None = is_idle lane.phase ≡ true
-Matches lane (Some tx) = Running lane tx
+abbrev pub Matches : WarpRow → Option Transaction → Type 0
+Matches warp_row None = is_idle warp_row.phase ≡ true
+Matches warp_row (Some tx) = Running warp_row tx
 
 -- A line is held at a stamp below one.
 pub record Blocked (l : Ledger) (line t : ℕ) : Type 0 where
@@ -40,28 +40,28 @@ module _ (k : Kind) (first : Lines) where
     pub requested : request_of m.queue w ≡ Some request
     pub line_low : request.line < line_limit
     pub there : is_some (first request.line) ≡ true
-    pub blocked : E w request.line ⊎ Blocked l request.line (lane_of m w).stamp
+    pub blocked : E w request.line ⊎ Blocked l request.line (warp_row_of m w).stamp
 
   pub record Inv (E : ℕ → ℕ → Type 0) (m : Machine k) (l : Ledger) : Type 0 where
     pub good : k.Good m.book
     pub history : History k first l m.lines m.book
-    pub lanes : (w : ℕ) → Matches (lane_of m w) (l.current w)
-    pub size : length m.lanes ≤ 32
-    pub waiters : (w : ℕ) → is_waiting (lane_of m w).phase ≡ true → Waiter E m l w
-    pub quiet : (w : ℕ) → is_waiting (lane_of m w).phase ≡ false → request_of m.queue w ≡ None
+    pub warp_rows : (w : ℕ) → Matches (warp_row_of m w) (l.current w)
+    pub size : length m.warp_rows ≤ 32
+    pub waiters : (w : ℕ) → is_waiting (warp_row_of m w).phase ≡ true → Waiter E m l w
+    pub quiet : (w : ℕ) → is_waiting (warp_row_of m w).phase ≡ false → request_of m.queue w ≡ None
     pub tallied : Tallied k l m.book
 
   -- What is exempt may change, as long as no waiting warp is left behind.
   pub exempt :
       (E E' : ℕ → ℕ → Type 0) (m : Machine k) (l : Ledger) → Inv E m l
-      → ((w : ℕ) (r : Request) → is_waiting (lane_of m w).phase ≡ true → request_of m.queue w ≡ Some r
-      → E w r.line → E' w r.line ⊎ Blocked l r.line (lane_of m w).stamp)
+      → ((w : ℕ) (r : Request) → is_waiting (warp_row_of m w).phase ≡ true → request_of m.queue w ≡ Some r
+      → E w r.line → E' w r.line ⊎ Blocked l r.line (warp_row_of m w).stamp)
       → Inv E' m l
   exempt E E' m l I to =
       record {
         good = I.good;
         history = I.history;
-        lanes = I.lanes;
+        warp_rows = I.warp_rows;
         size = I.size;
         waiters =
             λ w e.
@@ -78,43 +78,43 @@ module _ (k : Kind) (first : Lines) where
       }
 
   -- One warp moves, and the others stay where they are.
-  pub one_lane :
+  pub one_warp_row :
       (E E' : ℕ → ℕ → Type 0) (m m' : Machine k) (l l' : Ledger) (w : ℕ) → Inv E m l
       → k.Good m'.book → History k first l' m'.lines m'.book
-      → length m'.lanes ≡ length m.lanes
-      → ((v : ℕ) → (v ≡ w → ⊥) → lane_of m' v ≡ lane_of m v)
+      → length m'.warp_rows ≡ length m.warp_rows
+      → ((v : ℕ) → (v ≡ w → ⊥) → warp_row_of m' v ≡ warp_row_of m v)
       → ((v : ℕ) → (v ≡ w → ⊥) → l'.current v ≡ l.current v)
       → ((v : ℕ) → (v ≡ w → ⊥) → request_of m'.queue v ≡ request_of m.queue v)
       → ((v line t : ℕ) → (v ≡ w → ⊥) → E v line ⊎ Blocked l line t → E' v line ⊎ Blocked l' line t)
-      → Matches (lane_of m' w) (l'.current w)
-      → (is_waiting (lane_of m' w).phase ≡ true → Waiter E' m' l' w)
-      → (is_waiting (lane_of m' w).phase ≡ false → request_of m'.queue w ≡ None)
+      → Matches (warp_row_of m' w) (l'.current w)
+      → (is_waiting (warp_row_of m' w).phase ≡ true → Waiter E' m' l' w)
+      → (is_waiting (warp_row_of m' w).phase ≡ false → request_of m'.queue w ≡ None)
       → Tallied k l' m'.book → Inv E' m' l'
-  one_lane E E' m m' l l' w I good history size lanes currents requests blocks mine waits_here quiet_here tallied =
+  one_warp_row E E' m m' l l' w I good history size warp_rows currents requests blocks mine waits_here quiet_here tallied =
       record {
         good = good;
         history = history;
-        lanes = λ v. lanes_now v (cases_eq v w);
+        warp_rows = λ v. warp_rows_now v (cases_eq v w);
         size = let a = I.size in omega arith;
         waiters = λ v. waiters_now v (cases_eq v w);
         quiet = λ v. quiet_now v (cases_eq v w);
         tallied = tallied;
       }
     where
-      lanes_now : (v : ℕ) → (v ≡ w) ⊎ (v ≡ w → ⊥) → Matches (lane_of m' v) (l'.current v)
-      lanes_now v (inl e) = subst (λ u. Matches (lane_of m' u) (l'.current u)) (sym e) mine
-      lanes_now v (inr n) =
-          subst (λ lane. Matches lane (l'.current v)) (sym (lanes v n))
-          (subst (Matches (lane_of m v)) (sym (currents v n)) (I.lanes v))
+      warp_rows_now : (v : ℕ) → (v ≡ w) ⊎ (v ≡ w → ⊥) → Matches (warp_row_of m' v) (l'.current v)
+      warp_rows_now v (inl e) = subst (λ u. Matches (warp_row_of m' u) (l'.current u)) (sym e) mine
+      warp_rows_now v (inr n) =
+          subst (λ warp_row. Matches warp_row (l'.current v)) (sym (warp_rows v n))
+          (subst (Matches (warp_row_of m v)) (sym (currents v n)) (I.warp_rows v))
 
       waiters_now :
-          (v : ℕ) → (v ≡ w) ⊎ (v ≡ w → ⊥) → is_waiting (lane_of m' v).phase ≡ true → Waiter E' m' l' v
+          (v : ℕ) → (v ≡ w) ⊎ (v ≡ w → ⊥) → is_waiting (warp_row_of m' v).phase ≡ true → Waiter E' m' l' v
       waiters_now v (inl e) p =
           subst (Waiter E' m' l') (sym e)
-          (waits_here (subst (λ u. is_waiting (lane_of m' u).phase ≡ true) e p))
+          (waits_here (subst (λ u. is_waiting (warp_row_of m' u).phase ≡ true) e p))
       waiters_now v (inr n) p =
-          let same = lanes v n in
-          let old = I.waiters v (subst (λ (lane : Lane). is_waiting lane.phase ≡ true) same p) in
+          let same = warp_rows v n in
+          let old = I.waiters v (subst (λ (warp_row : WarpRow). is_waiting warp_row.phase ≡ true) same p) in
           record {
             request = old.request;
             requested = requests v n ∙ old.requested;
@@ -122,34 +122,34 @@ module _ (k : Kind) (first : Lines) where
             there = old.there;
             blocked =
                 subst
-                (λ (lane : Lane). E' v old.request.line ⊎ Blocked l' old.request.line lane.stamp)
-                (sym same) (blocks v old.request.line (lane_of m v).stamp n old.blocked);
+                (λ (warp_row : WarpRow). E' v old.request.line ⊎ Blocked l' old.request.line warp_row.stamp)
+                (sym same) (blocks v old.request.line (warp_row_of m v).stamp n old.blocked);
           }
 
       quiet_now :
-          (v : ℕ) → (v ≡ w) ⊎ (v ≡ w → ⊥) → is_waiting (lane_of m' v).phase ≡ false
+          (v : ℕ) → (v ≡ w) ⊎ (v ≡ w → ⊥) → is_waiting (warp_row_of m' v).phase ≡ false
           → request_of m'.queue v ≡ None
       quiet_now v (inl e) p =
           ap (request_of m'.queue) e
-          ∙ quiet_here (subst (λ u. is_waiting (lane_of m' u).phase ≡ false) e p)
+          ∙ quiet_here (subst (λ u. is_waiting (warp_row_of m' u).phase ≡ false) e p)
       quiet_now v (inr n) p =
-          requests v n ∙ I.quiet v (subst (λ (lane : Lane). is_waiting lane.phase ≡ false) (lanes v n) p)
+          requests v n ∙ I.quiet v (subst (λ (warp_row : WarpRow). is_waiting warp_row.phase ≡ false) (warp_rows v n) p)
 
   -- Phases, stamps and queue stay, and what is held stays held.
   pub steady :
       (E : ℕ → ℕ → Type 0) (m m' : Machine k) (l l' : Ledger) → Inv E m l
       → k.Good m'.book → History k first l' m'.lines m'.book
-      → length m'.lanes ≡ length m.lanes → m'.queue ≡ m.queue
-      → ((v : ℕ) → (lane_of m' v).phase ≡ (lane_of m v).phase)
-      → ((v : ℕ) → (lane_of m' v).stamp ≡ (lane_of m v).stamp)
+      → length m'.warp_rows ≡ length m.warp_rows → m'.queue ≡ m.queue
+      → ((v : ℕ) → (warp_row_of m' v).phase ≡ (warp_row_of m v).phase)
+      → ((v : ℕ) → (warp_row_of m' v).stamp ≡ (warp_row_of m v).stamp)
       → ((h line t : ℕ) → hold l h line ≡ Some t → hold l' h line ≡ Some t)
-      → ((v : ℕ) → Matches (lane_of m' v) (l'.current v))
+      → ((v : ℕ) → Matches (warp_row_of m' v) (l'.current v))
       → Tallied k l' m'.book → Inv E m' l'
-  steady E m m' l l' I good history size queue phases stamps holds lanes tallied =
+  steady E m m' l l' I good history size queue phases stamps holds warp_rows tallied =
       record {
         good = good;
         history = history;
-        lanes = lanes;
+        warp_rows = warp_rows;
         size = let a = I.size in omega arith;
         waiters =
             λ v p.
@@ -162,7 +162,7 @@ module _ (k : Kind) (first : Lines) where
               blocked =
                   subst (λ t. E v old.request.line ⊎ Blocked l' old.request.line t) (sym (stamps v))
                   (⊎_elim inl
-                  (λ (b : Blocked l old.request.line (lane_of m v).stamp).
+                  (λ (b : Blocked l old.request.line (warp_row_of m v).stamp).
                   inr
                   (record {
                     by_warp = b.by_warp;
@@ -207,8 +207,8 @@ module _ (k : Kind) (first : Lines) where
   module _ (keeps : Keeps k) (E : ℕ → ℕ → Type 0) (m : Machine k) (l : Ledger) (I : Inv E m l) (w : ℕ) where
     -- A warp with a transaction.
     module _ (tx : Transaction) (mine : l.current w ≡ Some tx) where
-      pub running : Running (lane_of m w) tx
-      running = subst (Matches (lane_of m w)) mine (I.lanes w)
+      pub running : Running (warp_row_of m w) tx
+      running = subst (Matches (warp_row_of m w)) mine (I.warp_rows w)
 
       pub warp_is : tx.warp ≡ w
       warp_is = (I.history.here w tx mine).0
@@ -216,7 +216,7 @@ module _ (k : Kind) (first : Lines) where
       pub warp_low : w < 32
       warp_low = (I.history.here w tx mine).1
 
-      pub in_machine : w < length m.lanes
+      pub in_machine : w < length m.warp_rows
       in_machine = busy_low m w running.busy
 
       -- What it holds stays held when it does one thing more.
@@ -239,19 +239,19 @@ module _ (k : Kind) (first : Lines) where
               ∙ ap Some (ap (λ (u : Transaction). u.stamp) (sym one) ∙ q.3)
           step false p = e
 
-      -- One thing more, done by this warp; its lane may log it.
+      -- One thing more, done by this warp; its row may log it.
       abbrev pub with_deed : (Transaction → Deed) → Ledger
       with_deed deed = with_current l w (option_map (λ t. doing t (deed t)) (l.current w))
 
       pub does :
           (m' : Machine k) (deed : Transaction → Deed) → k.Good m'.book
           → History k first (with_deed deed) m'.lines m'.book
-          → length m'.lanes ≡ length m.lanes → m'.queue ≡ m.queue
-          → ((v : ℕ) → (lane_of m' v).phase ≡ (lane_of m v).phase)
-          → ((v : ℕ) → (lane_of m' v).stamp ≡ (lane_of m v).stamp)
-          → ((v : ℕ) → (v ≡ w → ⊥) → lane_of m' v ≡ lane_of m v)
+          → length m'.warp_rows ≡ length m.warp_rows → m'.queue ≡ m.queue
+          → ((v : ℕ) → (warp_row_of m' v).phase ≡ (warp_row_of m v).phase)
+          → ((v : ℕ) → (warp_row_of m' v).stamp ≡ (warp_row_of m v).stamp)
+          → ((v : ℕ) → (v ≡ w → ⊥) → warp_row_of m' v ≡ warp_row_of m v)
           → ((n : ℕ) → writes tx.deeds n ≡ true → writes (deed tx ∷ tx.deeds) n ≡ true)
-          → (lane_of m' w).log ≡ stores_of (deed tx ∷ tx.deeds)
+          → (warp_row_of m' w).log ≡ stores_of (deed tx ∷ tx.deeds)
           → Tallied k (with_deed deed) m'.book
           → Inv E m' (with_deed deed)
       does m' deed good history size queue phases stamps others to log tallied =
@@ -264,12 +264,12 @@ module _ (k : Kind) (first : Lines) where
         where
           match :
               (v : ℕ) → (v ≡ w) ⊎ (v ≡ w → ⊥)
-              → Matches (lane_of m' v) ((with_deed deed).current v)
+              → Matches (warp_row_of m' v) ((with_deed deed).current v)
           match v (inl e) =
               subst
-              (λ u. Matches (lane_of m' u) ((with_deed deed).current u))
+              (λ u. Matches (warp_row_of m' u) ((with_deed deed).current u))
               (sym e)
-              (subst (Matches (lane_of m' w))
+              (subst (Matches (warp_row_of m' w))
               (sym (current_mine l w (option_map (λ t. doing t (deed t)) (l.current w))
               ∙ ap (option_map (λ t. doing t (deed t))) mine))
               (record {
@@ -279,8 +279,8 @@ module _ (k : Kind) (first : Lines) where
                 in_clock = let a = running.in_clock in let b = stamps w in omega arith;
               }))
           match v (inr n) =
-              subst (λ lane. Matches lane ((with_deed deed).current v))
+              subst (λ warp_row. Matches warp_row ((with_deed deed).current v))
               (sym (others v n))
-              (subst (Matches (lane_of m v))
+              (subst (Matches (warp_row_of m v))
               (sym (current_other l w (option_map (λ t. doing t (deed t)) (l.current w)) v n))
-              (I.lanes v))
+              (I.warp_rows v))

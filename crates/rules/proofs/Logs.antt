@@ -1,4 +1,4 @@
--- Logs, lanes and the queue, as lists.
+-- Logs, rows and the queue, as lists.
 use Rattle.std.proofs.Common.{◌≡◌, ℕ, ◌<◌, Bool, true, false, cond, not, ◌||◌, eqb, List, [], ◌∷◌, ◌++◌, map, length, is_some, Some, None, fold, Option, sym, refl, ap, ◌∙◌, subst, ⊎_elim}
 use Rattle.std.proofs.lemmas.List.{get_or-set_same, get_or-set_other, get_or_past, map-append}
 use Rattle.std.proofs.lemmas.List.Sums.{fold_push}
@@ -7,7 +7,7 @@ use Rattle.book.specs.Meaning.{Kind}
 use Rattle.rules.specs.declared.state.Phase.TheVariants.{Idle, Open, Waiting, Settled}
 use Rattle.rules.specs.declared.state.Request.{Request}
 use Rattle.rules.specs.Lists.{has, push_new, last_stored}
-use Rattle.rules.specs.State.{Lane, Machine, idle_at, is_idle, is_waiting, lane_of, with_lane}
+use Rattle.rules.specs.State.{WarpRow, Machine, idle_at, is_idle, is_waiting, warp_row_of, with_warp_row}
 use Rattle.rules.specs.Queue.{request_of, without}
 use Rattle.rules.specs.Ending.{logged_lines}
 use Rattle.rules.specs.Transactions.{Deed, loaded, stored, own_store, writes, stores_of}
@@ -75,22 +75,22 @@ has_logged deeds line =
         step false (Some u) = refl
 
 module _ {k : Kind} (m : Machine k) (w : ℕ) where
-  -- A lane that is put is there, and the others are as they were.
-  pub lane_put : (lane : Lane) → w < length m.lanes → lane_of (with_lane m w lane) w ≡ lane
-  lane_put lane low = get_or-set_same m.lanes w lane (idle_at 0) low
+  -- A row that is put is there, and the others are as they were.
+  pub warp_row_put : (warp_row : WarpRow) → w < length m.warp_rows → warp_row_of (with_warp_row m w warp_row) w ≡ warp_row
+  warp_row_put warp_row low = get_or-set_same m.warp_rows w warp_row (idle_at 0) low
 
-  pub lane_kept : (lane : Lane) (v : ℕ) → (v ≡ w → ⊥) → lane_of (with_lane m w lane) v ≡ lane_of m v
-  lane_kept lane v n = get_or-set_other m.lanes w v lane (idle_at 0) n
+  pub warp_row_kept : (warp_row : WarpRow) (v : ℕ) → (v ≡ w → ⊥) → warp_row_of (with_warp_row m w warp_row) v ≡ warp_row_of m v
+  warp_row_kept warp_row v n = get_or-set_other m.warp_rows w v warp_row (idle_at 0) n
 
   -- A warp that is not idle is one of the machine's.
-  pub busy_low : is_idle (lane_of m w).phase ≡ false → w < length m.lanes
+  pub busy_low : is_idle (warp_row_of m w).phase ≡ false → w < length m.warp_rows
   busy_low e =
       ⊎_elim (λ l. l)
       (λ g.
       absurd
-      (both_ways (is_idle (lane_of m w).phase) e
-      (ap (λ (lane : Lane). is_idle lane.phase) (get_or_past m.lanes w (idle_at 0) g))))
-      (cases_lt w (length m.lanes))
+      (both_ways (is_idle (warp_row_of m w).phase) e
+      (ap (λ (warp_row : WarpRow). is_idle warp_row.phase) (get_or_past m.warp_rows w (idle_at 0) g))))
+      (cases_lt w (length m.warp_rows))
 
 pub waiting_busy : (p : Rattle.rules.specs.declared.state.Phase.Phase) → is_waiting p ≡ true → is_idle p ≡ false
 waiting_busy Idle e = absurd (both_ways false refl e)

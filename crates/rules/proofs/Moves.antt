@@ -11,8 +11,8 @@ use Rattle.rules.specs.declared.state.Access.TheVariants.{Read, Write}
 use Rattle.rules.specs.declared.state.Phase.{Phase}
 use Rattle.rules.specs.declared.state.Phase.TheVariants.{Idle, Open, Waiting, Settled}
 use Rattle.rules.specs.Lists.{has, last_stored}
-use Rattle.rules.specs.State.{Lane, Machine, idle_at, is_idle, is_waiting, in_phase, logging, lane_of, time_of}
-use Rattle.rules.specs.State.{with_book, with_lane}
+use Rattle.rules.specs.State.{WarpRow, Machine, idle_at, is_idle, is_waiting, in_phase, logging, warp_row_of, time_of}
+use Rattle.rules.specs.State.{with_book, with_warp_row}
 use Rattle.rules.specs.Access.{told}
 use Rattle.rules.specs.Serving.{serves, serves_own, memory_value}
 use Rattle.rules.specs.Ending.{with_outcome, settles, lets_go, logged_lines}
@@ -26,9 +26,9 @@ use Rattle.rules.proofs.BookMoves.{after_note, after_add, after_take, Freed, aft
 use Rattle.rules.proofs.Tallies.{never_stored, once_stored, stored_at_most, tally_load, tally_store, tally_end}
 use Rattle.rules.proofs.Tallies.{tally_begin}
 use Rattle.rules.proofs.Verdicts.{Goes, Stalls}
-use Rattle.rules.proofs.Logs.{logged_own, has_logged, lane_put, lane_kept, request_push, request_mine, request_left}
+use Rattle.rules.proofs.Logs.{logged_own, has_logged, warp_row_put, warp_row_kept, request_push, request_mine, request_left}
 use Rattle.rules.proofs.Logs.{request_gone}
-use Rattle.rules.proofs.Invariant.{Running, Matches, Blocked, Inv, one_lane, current_mine, current_other, holds_line}
+use Rattle.rules.proofs.Invariant.{Running, Matches, Blocked, Inv, one_warp_row, current_mine, current_other, holds_line}
 use Rattle.rules.proofs.Invariant.{running, warp_is, warp_low, in_machine, does}
 
 some_value : (o : Option ℕ) → is_some o ≡ true → o ≡ Some (unwrap_or o 0)
@@ -40,9 +40,9 @@ own_or_none None h = refl
 own_or_none (Some u) h = absurd (h u refl)
 
 -- A store has room in its log.
-abbrev pub Room : Access → Lane → Type 0
-Room Read lane = Unit {0}
-Room (Write value) lane = length lane.log < log_limit
+abbrev pub Room : Access → WarpRow → Type 0
+Room Read warp_row = Unit {0}
+Room (Write value) warp_row = length warp_row.log < log_limit
 
 some_of : (o : Option ℕ) → is_some o ≡ true → (u : ℕ) × (o ≡ Some u)
 some_of None e = absurd (both_ways false refl e)
@@ -53,40 +53,40 @@ module _
     (I : Inv k first E m l) (w : ℕ)
   where
     module _ (tx : Transaction) (mine : l.current w ≡ Some tx) where
-      R : Running (lane_of m w) tx
+      R : Running (warp_row_of m w) tx
       R = running k first keeps E m l I w tx mine
 
       low_w : w < 32
       low_w = warp_low k first keeps E m l I w tx mine
 
-      inside : w < length m.lanes
+      inside : w < length m.warp_rows
       inside = in_machine k first keeps E m l I w tx mine
 
       same_time : (s : ℕ) → tx.stamp ≡ s → ◌≡◌ {A = ℕ × ℕ} (s, w) (tx.stamp, tx.warp)
       same_time s e = λ i. (sym e i, sym (warp_is k first keeps E m l I w tx mine) i)
 
-      -- A lane that logs one store more keeps its phase and its stamp.
+      -- A row that logs one store more keeps its phase and its stamp.
       logs_phase :
           (line v u : ℕ)
-          → (get_or (set m.lanes w (logging (lane_of m w) line v)) u (idle_at 0)).phase ≡ (lane_of m u).phase
+          → (get_or (set m.warp_rows w (logging (warp_row_of m w) line v)) u (idle_at 0)).phase ≡ (warp_row_of m u).phase
       logs_phase line v u =
           ⊎_elim
           (λ e.
           subst
-          (λ x. (get_or (set m.lanes w (logging (lane_of m w) line v)) x (idle_at 0)).phase ≡ (lane_of m x).phase)
-          (sym e) (ap (λ (lane : Lane). lane.phase) (lane_put m w (logging (lane_of m w) line v) inside)))
-          (λ n. ap (λ (lane : Lane). lane.phase) (lane_kept m w (logging (lane_of m w) line v) u n)) (cases_eq u w)
+          (λ x. (get_or (set m.warp_rows w (logging (warp_row_of m w) line v)) x (idle_at 0)).phase ≡ (warp_row_of m x).phase)
+          (sym e) (ap (λ (warp_row : WarpRow). warp_row.phase) (warp_row_put m w (logging (warp_row_of m w) line v) inside)))
+          (λ n. ap (λ (warp_row : WarpRow). warp_row.phase) (warp_row_kept m w (logging (warp_row_of m w) line v) u n)) (cases_eq u w)
 
       logs_stamp :
           (line v u : ℕ)
-          → (get_or (set m.lanes w (logging (lane_of m w) line v)) u (idle_at 0)).stamp ≡ (lane_of m u).stamp
+          → (get_or (set m.warp_rows w (logging (warp_row_of m w) line v)) u (idle_at 0)).stamp ≡ (warp_row_of m u).stamp
       logs_stamp line v u =
           ⊎_elim
           (λ e.
           subst
-          (λ x. (get_or (set m.lanes w (logging (lane_of m w) line v)) x (idle_at 0)).stamp ≡ (lane_of m x).stamp)
-          (sym e) (ap (λ (lane : Lane). lane.stamp) (lane_put m w (logging (lane_of m w) line v) inside)))
-          (λ n. ap (λ (lane : Lane). lane.stamp) (lane_kept m w (logging (lane_of m w) line v) u n)) (cases_eq u w)
+          (λ x. (get_or (set m.warp_rows w (logging (warp_row_of m w) line v)) x (idle_at 0)).stamp ≡ (warp_row_of m x).stamp)
+          (sym e) (ap (λ (warp_row : WarpRow). warp_row.stamp) (warp_row_put m w (logging (warp_row_of m w) line v) inside)))
+          (λ n. ap (λ (warp_row : WarpRow). warp_row.stamp) (warp_row_kept m w (logging (warp_row_of m w) line v) u n)) (cases_eq u w)
 
       wrote :
           (value n : ℕ) → writes tx.deeds n ≡ true → (b : Bool)
@@ -96,10 +96,10 @@ module _
 
       logs_log :
           (line v : ℕ)
-          → (get_or (set m.lanes w (logging (lane_of m w) line v)) w (idle_at 0)).log
+          → (get_or (set m.warp_rows w (logging (warp_row_of m w) line v)) w (idle_at 0)).log
           ≡ stores_of tx.deeds ++ (line, v) ∷ []
       logs_log line v =
-          ap (λ (lane : Lane). lane.log) (lane_put m w (logging (lane_of m w) line v) inside)
+          ap (λ (warp_row : WarpRow). warp_row.log) (warp_row_put m w (logging (warp_row_of m w) line v) inside)
           ∙ ap (λ log. log ++ (line, v) ∷ []) R.same_log
 
       module _ (line : ℕ) (low : line < line_limit) (there : is_some (first line) ≡ true) where
@@ -128,7 +128,7 @@ module _
                 let z : ◌≡◌ {A = ℕ} 0 1 = cc in
                 omega arith
 
-        pub stalled : Stalls (told k m.book line) (time_of m w) → Blocked l line (lane_of m w).stamp
+        pub stalled : Stalls (told k m.book line) (time_of m w) → Blocked l line (warp_row_of m w).stamp
         stalled stall =
             let h = I.history.core.owner_holds line stall.holder low stall.owned in
             record {
@@ -148,7 +148,7 @@ module _
             (comes_as l w line access (serves m w line access).outcome)
         unfolding serves
         serves_keeps Read go =
-            let note = after_note k keeps m.book I.good line (lane_of m w).stamp w low R.in_clock low_w in
+            let note = after_note k keeps m.book I.good line (warp_row_of m w).stamp w low R.in_clock low_w in
             does k first keeps E m l I w tx mine
             (with_book m (noted k m.book line (time_of m w)))
             (λ t. loaded line (memory_value m line) (load_found l.committed t line)) note.good
@@ -156,19 +156,19 @@ module _
             (noted k m.book line (time_of m w)) note.grown line (memory_value m line)
             (not_own go.nobody) (some_value (m.lines line) in_memory) low go.nobody
             (let a = go.unwritten in let b = R.same_stamp in omega arith)
-            (subst (λ time. earlier (k.read_mark (noted k m.book line ((lane_of m w).stamp, w)) line) time ≡ false)
-            (same_time (lane_of m w).stamp R.same_stamp) note.reaches))
+            (subst (λ time. earlier (k.read_mark (noted k m.book line ((warp_row_of m w).stamp, w)) line) time ≡ false)
+            (same_time (warp_row_of m w).stamp R.same_stamp) note.reaches))
             refl refl (λ v. refl) (λ v. refl) (λ v n. refl) (λ n x. x) R.same_log
             (tally_load k first m.lines l m.book (noted k m.book line (time_of m w)) I.history I.tallied
             note.counts w (λ t. loaded line (memory_value m line) (load_found l.committed t line))
             (λ t n. refl) (λ t n. refl) tx mine)
         serves_keeps (Write value) go =
             let take =
-            after_take k keeps m.book I.good line (lane_of m w).stamp w low R.in_clock low_w go.nobody
+            after_take k keeps m.book I.good line (warp_row_of m w).stamp w low R.in_clock low_w go.nobody
             go.storable.1 go.unwritten go.storable.0
             in
             does k first keeps E m l I w tx mine
-            (with_lane (with_book m (taken k m.book line (time_of m w))) w (logging (lane_of m w) line value))
+            (with_warp_row (with_book m (taken k m.book line (time_of m w))) w (logging (warp_row_of m w) line value))
             (λ t. stored line value) take.good
             (store_new k first l m.lines m.book I.history w tx mine
             (taken k m.book line (time_of m w)) line value
@@ -176,9 +176,9 @@ module _
             (λ t. Rattle.rules.proofs.History.Taken k m.book (taken k m.book line (time_of m w)) w line t)
             (sym R.same_stamp) take.took)
             in_memory)
-            (length-set m.lanes w (logging (lane_of m w) line value)) refl
+            (length-set m.warp_rows w (logging (warp_row_of m w) line value)) refl
             (logs_phase line value) (logs_stamp line value)
-            (λ v n. lane_kept m w (logging (lane_of m w) line value) v n)
+            (λ v n. warp_row_kept m w (logging (warp_row_of m w) line value) v n)
             (λ n x. wrote value n x (eqb line n)) (logs_log line value)
             (tally_store k first m.lines l m.book (taken k m.book line (time_of m w)) I.history I.tallied
             w line value tx mine take.counts
@@ -188,22 +188,22 @@ module _
 
         -- A load or a store on the warp's own line.
         pub serves_own_keeps :
-            (access : Access) → Room access (lane_of m w) → k.owner m.book line ≡ Some w
+            (access : Access) → Room access (warp_row_of m w) → k.owner m.book line ≡ Some w
             → Inv k first E (serves_own m w line access).machine
             (comes_as l w line access (serves_own m w line access).outcome)
         unfolding serves_own
         serves_own_keeps Read room owned =
-            let note = after_note k keeps m.book I.good line (lane_of m w).stamp w low R.in_clock low_w in
+            let note = after_note k keeps m.book I.good line (warp_row_of m w).stamp w low R.in_clock low_w in
             let u = own_value owned in
             does k first keeps E m l I w tx mine
             (with_book m (noted k m.book line (time_of m w)))
             (λ t.
-            loaded line (unwrap_or (last_stored (lane_of m w).log line) (memory_value m line))
+            loaded line (unwrap_or (last_stored (warp_row_of m w).log line) (memory_value m line))
             (load_found l.committed t line))
             note.good
             (load_own k first l m.lines m.book I.history w tx mine
             (noted k m.book line (time_of m w)) note.grown line
-            (unwrap_or (last_stored (lane_of m w).log line) (memory_value m line))
+            (unwrap_or (last_stored (warp_row_of m w).log line) (memory_value m line))
             (u.1
             ∙ ap Some
             (sym
@@ -213,7 +213,7 @@ module _
             (tally_load k first m.lines l m.book (noted k m.book line (time_of m w)) I.history I.tallied
             note.counts w
             (λ t.
-            loaded line (unwrap_or (last_stored (lane_of m w).log line) (memory_value m line))
+            loaded line (unwrap_or (last_stored (warp_row_of m w).log line) (memory_value m line))
             (load_found l.committed t line))
             (λ t n. refl) (λ t n. refl) tx mine)
         serves_own_keeps (Write value) room owned =
@@ -236,13 +236,13 @@ module _
             in
             let add = after_add k keeps m.book I.good line can in
             does k first keeps E m l I w tx mine
-            (with_lane (with_book m (added k m.book line)) w (logging (lane_of m w) line value))
+            (with_warp_row (with_book m (added k m.book line)) w (logging (warp_row_of m w) line value))
             (λ t. stored line value) add.good
             (store_own k first l m.lines m.book I.history w tx mine (added k m.book line) add.grown line
             value u.0 u.1)
-            (length-set m.lanes w (logging (lane_of m w) line value)) refl
+            (length-set m.warp_rows w (logging (warp_row_of m w) line value)) refl
             (logs_phase line value) (logs_stamp line value)
-            (λ v n. lane_kept m w (logging (lane_of m w) line value) v n)
+            (λ v n. warp_row_kept m w (logging (warp_row_of m w) line value) v n)
             (λ n x. wrote value n x (eqb line n)) (logs_log line value)
             (tally_store k first m.lines l m.book (added k m.book line) I.history I.tallied w line value
             tx
@@ -251,17 +251,17 @@ module _
 
         -- A request joins the queue.
         pub waits_keeps :
-            (access : Access) → is_waiting (lane_of m w).phase ≡ false → Stalls (told k m.book line) (time_of m w)
+            (access : Access) → is_waiting (warp_row_of m w).phase ≡ false → Stalls (told k m.book line) (time_of m w)
             → Inv k first E (waits m w line access) l
         unfolding waits
         waits_keeps access calm stall =
-            one_lane k first E E m (waits m w line access) l l w I I.good I.history
-            (length-set m.lanes w (in_phase (lane_of m w) Waiting))
-            (λ v n. lane_kept m w (in_phase (lane_of m w) Waiting) v n) (λ v n. refl)
+            one_warp_row k first E E m (waits m w line access) l l w I I.good I.history
+            (length-set m.warp_rows w (in_phase (warp_row_of m w) Waiting))
+            (λ v n. warp_row_kept m w (in_phase (warp_row_of m w) Waiting) v n) (λ v n. refl)
             (λ v n. request_push m.queue (record { warp = w; line = line; access = access }) v n)
             (λ v at t n b. b)
-            (subst (λ lane. Matches lane (l.current w)) (sym put_lane)
-            (subst (Matches (in_phase (lane_of m w) Waiting)) (sym mine)
+            (subst (λ warp_row. Matches warp_row (l.current w)) (sym put_warp_row)
+            (subst (Matches (in_phase (warp_row_of m w) Waiting)) (sym mine)
             (record {
               busy = refl;
               same_stamp = R.same_stamp;
@@ -275,17 +275,17 @@ module _
               line_low = low;
               there = there;
               blocked =
-                  subst (λ (lane : Lane). E w line ⊎ Blocked l line lane.stamp) (sym put_lane)
+                  subst (λ (warp_row : WarpRow). E w line ⊎ Blocked l line warp_row.stamp) (sym put_warp_row)
                   (inr (stalled stall));
             })
             (λ p.
             absurd
             (both_ways true
-            (subst (λ (lane : Lane). is_waiting lane.phase ≡ false) put_lane p) refl)) I.tallied
+            (subst (λ (warp_row : WarpRow). is_waiting warp_row.phase ≡ false) put_warp_row p) refl)) I.tallied
           where
-            put_lane :
-                get_or (set m.lanes w (in_phase (lane_of m w) Waiting)) w (idle_at 0) ≡ in_phase (lane_of m w) Waiting
-            put_lane = lane_put m w (in_phase (lane_of m w) Waiting) inside
+            put_warp_row :
+                get_or (set m.warp_rows w (in_phase (warp_row_of m w) Waiting)) w (idle_at 0) ≡ in_phase (warp_row_of m w) Waiting
+            put_warp_row = warp_row_put m w (in_phase (warp_row_of m w) Waiting) inside
 
       -- A request comes out, and leaves the queue.
       pub settles_keeps :
@@ -293,13 +293,13 @@ module _
           → Inv k first E' (settles m w outcome) l
       unfolding settles
       settles_keeps E' outcome to =
-          one_lane k first E E' m (settles m w outcome) l l w I I.good I.history
-          (length-set m.lanes w (with_outcome (lane_of m w) outcome))
-          (λ v n. lane_kept m w (with_outcome (lane_of m w) outcome) v n) (λ v n. refl)
+          one_warp_row k first E E' m (settles m w outcome) l l w I I.good I.history
+          (length-set m.warp_rows w (with_outcome (warp_row_of m w) outcome))
+          (λ v n. warp_row_kept m w (with_outcome (warp_row_of m w) outcome) v n) (λ v n. refl)
           (λ v n. request_left m.queue w v n)
           (λ v line t n b. ⊎_elim (λ e. inl (to v line n e)) inr b)
-          (subst (λ lane. Matches lane (l.current w)) (sym put_lane)
-          (subst (Matches (with_outcome (lane_of m w) outcome)) (sym mine)
+          (subst (λ warp_row. Matches warp_row (l.current w)) (sym put_warp_row)
+          (subst (Matches (with_outcome (warp_row_of m w) outcome)) (sym mine)
           (record {
             busy = refl;
             same_stamp = R.same_stamp;
@@ -308,25 +308,25 @@ module _
           })))
           (λ p.
           absurd
-          (both_ways false refl (subst (λ (lane : Lane). is_waiting lane.phase ≡ true) put_lane p)))
+          (both_ways false refl (subst (λ (warp_row : WarpRow). is_waiting warp_row.phase ≡ true) put_warp_row p)))
           (λ p. request_gone m.queue w) I.tallied
         where
-          put_lane :
-              get_or (set m.lanes w (with_outcome (lane_of m w) outcome)) w (idle_at 0)
-              ≡ with_outcome (lane_of m w) outcome
-          put_lane = lane_put m w (with_outcome (lane_of m w) outcome) inside
+          put_warp_row :
+              get_or (set m.warp_rows w (with_outcome (warp_row_of m w) outcome)) w (idle_at 0)
+              ≡ with_outcome (warp_row_of m w) outcome
+          put_warp_row = warp_row_put m w (with_outcome (warp_row_of m w) outcome) inside
 
       -- A fetched value or store: the warp goes on.
       pub reopened_keeps :
-          is_waiting (lane_of m w).phase ≡ false
-          → Inv k first E (with_lane m w (in_phase (lane_of m w) Open)) l
+          is_waiting (warp_row_of m w).phase ≡ false
+          → Inv k first E (with_warp_row m w (in_phase (warp_row_of m w) Open)) l
       reopened_keeps calm =
-          one_lane k first E E m (with_lane m w (in_phase (lane_of m w) Open)) l l w I I.good I.history
-          (length-set m.lanes w (in_phase (lane_of m w) Open))
-          (λ v n. lane_kept m w (in_phase (lane_of m w) Open) v n) (λ v n. refl) (λ v n. refl)
+          one_warp_row k first E E m (with_warp_row m w (in_phase (warp_row_of m w) Open)) l l w I I.good I.history
+          (length-set m.warp_rows w (in_phase (warp_row_of m w) Open))
+          (λ v n. warp_row_kept m w (in_phase (warp_row_of m w) Open) v n) (λ v n. refl) (λ v n. refl)
           (λ v line t n b. b)
-          (subst (λ lane. Matches lane (l.current w)) (sym put_lane)
-          (subst (Matches (in_phase (lane_of m w) Open)) (sym mine)
+          (subst (λ warp_row. Matches warp_row (l.current w)) (sym put_warp_row)
+          (subst (Matches (in_phase (warp_row_of m w) Open)) (sym mine)
           (record {
             busy = refl;
             same_stamp = R.same_stamp;
@@ -335,25 +335,25 @@ module _
           })))
           (λ p.
           absurd
-          (both_ways false refl (subst (λ (lane : Lane). is_waiting lane.phase ≡ true) put_lane p)))
+          (both_ways false refl (subst (λ (warp_row : WarpRow). is_waiting warp_row.phase ≡ true) put_warp_row p)))
           (λ p. I.quiet w calm) I.tallied
         where
-          put_lane :
-              get_or (set m.lanes w (in_phase (lane_of m w) Open)) w (idle_at 0) ≡ in_phase (lane_of m w) Open
-          put_lane = lane_put m w (in_phase (lane_of m w) Open) inside
+          put_warp_row :
+              get_or (set m.warp_rows w (in_phase (warp_row_of m w) Open)) w (idle_at 0) ≡ in_phase (warp_row_of m w) Open
+          put_warp_row = warp_row_put m w (in_phase (warp_row_of m w) Open) inside
 
       -- The lines of the transaction are its logged ones.
       abbrev pub ItsLines : ℕ → Type 0
-      ItsLines line = has line (logged_lines (lane_of m w).log) ≡ true
+      ItsLines line = has line (logged_lines (warp_row_of m w).log) ≡ true
 
-      logged_writes : (line : ℕ) → has line (logged_lines (lane_of m w).log) ≡ writes tx.deeds line
+      logged_writes : (line : ℕ) → has line (logged_lines (warp_row_of m w).log) ≡ writes tx.deeds line
       logged_writes line = ap (λ log. has line (logged_lines log)) R.same_log ∙ has_logged tx.deeds line
 
       abbrev freed_book : k.State
-      freed_book = fold (released k) m.book (logged_lines (lane_of m w).log)
+      freed_book = fold (released k) m.book (logged_lines (warp_row_of m w).log)
 
-      freed : Freed k keeps m.book freed_book (logged_lines (lane_of m w).log)
-      freed = after_release k keeps m.book I.good (logged_lines (lane_of m w).log)
+      freed : Freed k keeps m.book freed_book (logged_lines (warp_row_of m w).log)
+      freed = after_release k keeps m.book I.good (logged_lines (warp_row_of m w).log)
 
       lets : LetGo k (hold l) m.book freed_book w
       lets =
@@ -406,29 +406,29 @@ module _
 
       -- The transaction ends, without and with a commit.
       module _ (stamp : ℕ) where
-        put_idle : get_or (set m.lanes w (idle_at stamp)) w (idle_at 0) ≡ idle_at stamp
-        put_idle = lane_put m w (idle_at stamp) inside
+        put_idle : get_or (set m.warp_rows w (idle_at stamp)) w (idle_at 0) ≡ idle_at stamp
+        put_idle = warp_row_put m w (idle_at stamp) inside
 
         idle_now :
             (l' : Ledger) → l'.current w ≡ None
-            → Matches (get_or (set m.lanes w (idle_at stamp)) w (idle_at 0)) (l'.current w)
+            → Matches (get_or (set m.warp_rows w (idle_at stamp)) w (idle_at 0)) (l'.current w)
         idle_now l' e =
-            subst (λ lane. Matches lane (l'.current w)) (sym put_idle)
+            subst (λ warp_row. Matches warp_row (l'.current w)) (sym put_idle)
             (subst (Matches (idle_at stamp)) (sym e) refl)
 
-        not_waiting : is_waiting (get_or (set m.lanes w (idle_at stamp)) w (idle_at 0)).phase ≡ true → ⊥
+        not_waiting : is_waiting (get_or (set m.warp_rows w (idle_at stamp)) w (idle_at 0)).phase ≡ true → ⊥
         not_waiting p =
-            both_ways false refl (subst (λ (lane : Lane). is_waiting lane.phase ≡ true) put_idle p)
+            both_ways false refl (subst (λ (warp_row : WarpRow). is_waiting warp_row.phase ≡ true) put_idle p)
 
         pub ends_keep :
-            is_waiting (lane_of m w).phase ≡ false
+            is_waiting (warp_row_of m w).phase ≡ false
             → Inv k first (λ v line. E v line ⊎ ItsLines line) (lets_go m w stamp) (ends_here l w)
         unfolding lets_go
         ends_keep calm =
-            one_lane k first E (λ v line. E v line ⊎ ItsLines line) m (lets_go m w stamp) l (ends_here l w) w I
+            one_warp_row k first E (λ v line. E v line ⊎ ItsLines line) m (lets_go m w stamp) l (ends_here l w) w I
             freed.good
             (ended k first l m.lines m.book I.history w freed_book lets)
-            (length-set m.lanes w (idle_at stamp)) (λ v n. lane_kept m w (idle_at stamp) v n)
+            (length-set m.warp_rows w (idle_at stamp)) (λ v n. warp_row_kept m w (idle_at stamp) v n)
             (λ v n. current_other k first l w None v n) (λ v n. refl)
             (λ v line t n b. still_blocked v line t b)
             (idle_now (ends_here l w) (current_mine k first l w None))
@@ -437,15 +437,15 @@ module _
             (λ line low x. freed.counts line low (logged_writes line ∙ x)))
 
         pub commits_keep :
-            is_waiting (lane_of m w).phase ≡ false
+            is_waiting (warp_row_of m w).phase ≡ false
             → Inv k first (λ v line. E v line ⊎ ItsLines line) (lets_go (writes_back m w) w stamp) (commits l w)
         unfolding lets_go
         commits_keep calm =
-            one_lane k first E (λ v line. E v line ⊎ ItsLines line) m (lets_go (writes_back m w) w stamp) l
+            one_warp_row k first E (λ v line. E v line ⊎ ItsLines line) m (lets_go (writes_back m w) w stamp) l
             (commits l w) w I freed.good
             (subst (λ log. History k first (commits l w) (written m.lines log) freed_book) (sym R.same_log)
             (committed k first l m.lines m.book I.history w tx mine freed_book lets))
-            (length-set m.lanes w (idle_at stamp)) (λ v n. lane_kept m w (idle_at stamp) v n)
+            (length-set m.warp_rows w (idle_at stamp)) (λ v n. warp_row_kept m w (idle_at stamp) v n)
             (λ v n. current_other k first l w None v n) (λ v n. refl)
             (λ v line t n b. same_holds v line t (still_blocked v line t b))
             (idle_now (commits l w) (current_mine k first l w None))
@@ -464,42 +464,42 @@ module _
 
     -- A transaction begins.
     pub begin_keeps :
-        w < length m.lanes → is_idle (lane_of m w).phase ≡ true → (lane_of m w).stamp ≤ last_stamp
-        → Inv k first E (with_lane m w (record { phase = Open; stamp = (lane_of m w).stamp; log = [] }))
-        (begins l w (lane_of m w).stamp)
+        w < length m.warp_rows → is_idle (warp_row_of m w).phase ≡ true → (warp_row_of m w).stamp ≤ last_stamp
+        → Inv k first E (with_warp_row m w (record { phase = Open; stamp = (warp_row_of m w).stamp; log = [] }))
+        (begins l w (warp_row_of m w).stamp)
     begin_keeps low idle clock =
-        one_lane k first E E m (with_lane m w (record { phase = Open; stamp = (lane_of m w).stamp; log = [] })) l
-        (begins l w (lane_of m w).stamp) w I I.good
+        one_warp_row k first E E m (with_warp_row m w (record { phase = Open; stamp = (warp_row_of m w).stamp; log = [] })) l
+        (begins l w (warp_row_of m w).stamp) w I I.good
         (begun k first l m.lines m.book I.history w none (let a = I.size in omega arith)
-        (lane_of m w).stamp)
-        (length-set m.lanes w (record { phase = Open; stamp = (lane_of m w).stamp; log = [] }))
-        (λ v n. lane_kept m w (record { phase = Open; stamp = (lane_of m w).stamp; log = [] }) v n)
+        (warp_row_of m w).stamp)
+        (length-set m.warp_rows w (record { phase = Open; stamp = (warp_row_of m w).stamp; log = [] }))
+        (λ v n. warp_row_kept m w (record { phase = Open; stamp = (warp_row_of m w).stamp; log = [] }) v n)
         (λ v n. current_other k first l w (Some new) v n) (λ v n. refl)
         (λ v line t n b. kept v line t b)
-        (subst (λ lane. Matches lane ((begins l w (lane_of m w).stamp).current w)) (sym put_lane)
-        (subst (Matches (record { phase = Open; stamp = (lane_of m w).stamp; log = [] }))
+        (subst (λ warp_row. Matches warp_row ((begins l w (warp_row_of m w).stamp).current w)) (sym put_warp_row)
+        (subst (Matches (record { phase = Open; stamp = (warp_row_of m w).stamp; log = [] }))
         (sym (current_mine k first l w (Some new)))
         (record { busy = refl; same_stamp = refl; same_log = refl; in_clock = clock })))
         (λ p.
         absurd
-        (both_ways false refl (subst (λ (lane : Lane). is_waiting lane.phase ≡ true) put_lane p)))
-        (λ p. I.quiet w (calm (lane_of m w).phase idle))
-        (tally_begin k l m.book I.tallied w (lane_of m w).stamp)
+        (both_ways false refl (subst (λ (warp_row : WarpRow). is_waiting warp_row.phase ≡ true) put_warp_row p)))
+        (λ p. I.quiet w (calm (warp_row_of m w).phase idle))
+        (tally_begin k l m.book I.tallied w (warp_row_of m w).stamp)
       where
         new : Transaction
-        new = record { stamp = (lane_of m w).stamp; warp = w; deeds = [] }
+        new = record { stamp = (warp_row_of m w).stamp; warp = w; deeds = [] }
 
-        put_lane :
-            get_or (set m.lanes w (record { phase = Open; stamp = (lane_of m w).stamp; log = [] })) w (idle_at 0)
-            ≡ record { phase = Open; stamp = (lane_of m w).stamp; log = [] }
-        put_lane = lane_put m w (record { phase = Open; stamp = (lane_of m w).stamp; log = [] }) low
+        put_warp_row :
+            get_or (set m.warp_rows w (record { phase = Open; stamp = (warp_row_of m w).stamp; log = [] })) w (idle_at 0)
+            ≡ record { phase = Open; stamp = (warp_row_of m w).stamp; log = [] }
+        put_warp_row = warp_row_put m w (record { phase = Open; stamp = (warp_row_of m w).stamp; log = [] }) low
 
         none : l.current w ≡ None
-        none = step (l.current w) (I.lanes w)
+        none = step (l.current w) (I.warp_rows w)
           where
-            step : (o : Option Transaction) → Matches (lane_of m w) o → o ≡ None
+            step : (o : Option Transaction) → Matches (warp_row_of m w) o → o ≡ None
             step None p = refl
-            step (Some tx) p = absurd (both_ways (is_idle (lane_of m w).phase) p.busy idle)
+            step (Some tx) p = absurd (both_ways (is_idle (warp_row_of m w).phase) p.busy idle)
 
         calm : (p : Phase) → is_idle p ≡ true → is_waiting p ≡ false
         calm Idle e = refl
@@ -509,7 +509,7 @@ module _
 
         kept :
             (v line t : ℕ) → E v line ⊎ Blocked l line t
-            → E v line ⊎ Blocked (begins l w (lane_of m w).stamp) line t
+            → E v line ⊎ Blocked (begins l w (warp_row_of m w).stamp) line t
         kept v line t (inl e) = inl e
         kept v line t (inr b) =
             inr

@@ -4,7 +4,7 @@ use Rattle.std.proofs.lemmas.Bool.{or_left, or_right}
 use Rattle.book.specs.Meaning.{Kind}
 use Rattle.rules.specs.declared.state.Request.{Request}
 use Rattle.rules.specs.Lists.{has}
-use Rattle.rules.specs.State.{Machine, lane_of}
+use Rattle.rules.specs.State.{Machine, warp_row_of}
 use Rattle.rules.specs.Queue.{request_of, requests_on, placed}
 use Rattle.rules.specs.Laws.{ProductCovers}
 use Rattle.rules.proofs.ListFacts.{eqb_same}
@@ -13,7 +13,7 @@ module _ {k : Kind} (m : Machine k) where
   -- A warp that is placed stands there, with all others.
   has_placed : (xs : List ℕ) (w z : ℕ) → has z (placed m xs w) ≡ (eqb w z || has z xs)
   has_placed [] w z = refl
-  has_placed (v ∷ xs) w z = step (ltb (lane_of m w).stamp (lane_of m v).stamp) (has_placed xs w z)
+  has_placed (v ∷ xs) w z = step (ltb (warp_row_of m w).stamp (warp_row_of m v).stamp) (has_placed xs w z)
     where
       swap : (a b c : Bool) → (b || (a || c)) ≡ (a || (b || c))
       swap true true c = refl

@@ -4,7 +4,7 @@ use Rattle.std.proofs.lemmas.Bool.{eqb-true, not-false}
 use Rattle.protocol.specs.Limits.{line_limit}
 use Rattle.memory.specs.Lines.{Lines}
 use Rattle.book.specs.Meaning.{Kind, Keeps, reserved}
-use Rattle.rules.specs.State.{Machine, lane_of}
+use Rattle.rules.specs.State.{Machine, warp_row_of}
 use Rattle.rules.specs.Making.{make}
 use Rattle.rules.specs.Runs.{run}
 use Rattle.rules.specs.Transactions.{Transaction}
@@ -18,8 +18,8 @@ module _
     (k : Kind) (keeps : Keeps k) (first : Lines) (E : ℕ → ℕ → Type 0) (m : Machine k) (l : Ledger)
     (I : Inv k first E m l)
   where
-    runs : (w : ℕ) (tx : Transaction) → l.current w ≡ Some tx → Running (lane_of m w) tx
-    runs w tx e = subst (Matches (lane_of m w)) e (I.lanes w)
+    runs : (w : ℕ) (tx : Transaction) → l.current w ≡ Some tx → Running (warp_row_of m w) tx
+    runs w tx e = subst (Matches (warp_row_of m w)) e (I.warp_rows w)
 
     owned : (line h : ℕ) → Holds l line h → k.owner m.book line ≡ Some h
     owned line h o =
@@ -51,7 +51,7 @@ module _
     tables : TablesAgree m l
     tables =
         record {
-          idle_warp = λ w e. subst (Matches (lane_of m w)) e (I.lanes w);
+          idle_warp = λ w e. subst (Matches (warp_row_of m w)) e (I.warp_rows w);
           busy_warp = λ w tx e. (runs w tx e).busy;
           its_stamp = λ w tx e. sym (runs w tx e).same_stamp;
           its_log = λ w tx e. (runs w tx e).same_log;

@@ -12,7 +12,7 @@ use Rattle.rules.specs.declared.state.Access.{Access}
 use Rattle.rules.specs.declared.state.Access.TheVariants.{Read, Write}
 use Rattle.rules.specs.declared.state.Request.{Request}
 use Rattle.rules.specs.Lists.{has}
-use Rattle.rules.specs.State.{Lane, Machine, Settling, is_idle, is_waiting, lane_of, time_of}
+use Rattle.rules.specs.State.{WarpRow, Machine, Settling, is_idle, is_waiting, warp_row_of, time_of}
 use Rattle.rules.specs.Access.{Verdict, told, own_line, lost, must_wait, go_on, retried}
 use Rattle.rules.specs.Queue.{Policy, request_of, access_at, pending}
 use Rattle.rules.specs.Serving.{memory_value, serves}
@@ -24,23 +24,23 @@ use Rattle.rules.proofs.Logs.{waiting_busy}
 use Rattle.rules.proofs.Invariant.{Matches, Blocked, Waiter, Inv, exempt, current_mine}
 use Rattle.rules.proofs.Moves.{serves_keeps, settles_keeps, stalled}
 
--- A lane that is not idle has a transaction.
+-- A row that is not idle has a transaction.
 pub has_transaction :
-    (lane : Lane) (o : Option Transaction) → Matches lane o → is_idle lane.phase ≡ false
+    (warp_row : WarpRow) (o : Option Transaction) → Matches warp_row o → is_idle warp_row.phase ≡ false
     → (tx : Transaction) × (o ≡ Some tx)
-has_transaction lane None p e = absurd (both_ways (is_idle lane.phase) e p)
-has_transaction lane (Some tx) p e = (tx, refl)
+has_transaction warp_row None p e = absurd (both_ways (is_idle warp_row.phase) e p)
+has_transaction warp_row (Some tx) p e = (tx, refl)
 
 module _ {k : Kind} (m : Machine k) (w line : ℕ) where
   -- A warp is tried at a line when it waits there.
   pub record TriedAt : Type 0 where
-    pub waiting : is_waiting (lane_of m w).phase ≡ true
+    pub waiting : is_waiting (warp_row_of m w).phase ≡ true
     pub request : Request
     pub requested : request_of m.queue w ≡ Some request
     pub at_line : request.line ≡ line
 
   pending_some : (access : Access) → pending m w line ≡ Some access → TriedAt
-  pending_some access e = step (is_waiting (lane_of m w).phase) refl (request_of m.queue w) refl e
+  pending_some access e = step (is_waiting (warp_row_of m w).phase) refl (request_of m.queue w) refl e
     where
       at :
           (r : Request) (b : Bool) → eqb r.line line ≡ b → cond b (Some r.access) None ≡ Some access
@@ -49,7 +49,7 @@ module _ {k : Kind} (m : Machine k) (w line : ℕ) where
       at r false p q = let z : ◌≡◌ {A = ℕ} 0 1 = cc in absurd (omega arith)
 
       step :
-          (b : Bool) → is_waiting (lane_of m w).phase ≡ b
+          (b : Bool) → is_waiting (warp_row_of m w).phase ≡ b
           → (o : Option Request) → request_of m.queue w ≡ o → cond b (access_at o line) None ≡ Some access
           → TriedAt
       step true p (Some r) q h =
@@ -58,7 +58,7 @@ module _ {k : Kind} (m : Machine k) (w line : ℕ) where
       step false p o q h = let z : ◌≡◌ {A = ℕ} 0 1 = cc in absurd (omega arith)
 
   pending_none :
-      pending m w line ≡ None → is_waiting (lane_of m w).phase ≡ true → (r : Request)
+      pending m w line ≡ None → is_waiting (warp_row_of m w).phase ≡ true → (r : Request)
       → request_of m.queue w ≡ Some r → r.line ≡ line → ⊥
   pending_none e p r q at =
       let a : pending m w line ≡ Some r.access =
@@ -122,8 +122,8 @@ module _ (k : Kind) (first : Lines) (keeps : Keeps k) (start : Ledger) where
 
         its : (tx : Transaction) × ((told_by st).current w ≡ Some tx)
         its =
-            has_transaction (lane_of st.machine w) ((told_by st).current w) (I.lanes w)
-            (waiting_busy (lane_of st.machine w).phase at.waiting)
+            has_transaction (warp_row_of st.machine w) ((told_by st).current w) (I.warp_rows w)
+            (waiting_busy (warp_row_of st.machine w).phase at.waiting)
 
         tried_keeps :
             (access : Access) (v : Verdict)
@@ -141,12 +141,12 @@ module _ (k : Kind) (first : Lines) (keeps : Keeps k) (start : Ledger) where
             keep :
                 (v : ℕ) (r : Request) → request_of st.machine.queue v ≡ Some r
                 → E' v r.line ⊎ ((v ≡ w) × (r.line ≡ line))
-                → E' v r.line ⊎ Blocked (told_by st) r.line (lane_of st.machine v).stamp
+                → E' v r.line ⊎ Blocked (told_by st) r.line (warp_row_of st.machine v).stamp
             keep v r q (inl e) = inl e
             keep v r q (inr p) =
                 inr
-                (subst (λ u. Blocked (told_by st) r.line (lane_of st.machine u).stamp) (sym p.0)
-                (subst (λ n. Blocked (told_by st) n (lane_of st.machine w).stamp) (sym p.1)
+                (subst (λ u. Blocked (told_by st) r.line (warp_row_of st.machine u).stamp) (sym p.0)
+                (subst (λ n. Blocked (told_by st) n (warp_row_of st.machine w).stamp) (sym p.1)
                 (stalled k first keeps E st.machine (told_by st) I w its.0 its.1 line low there stall)))
         tried_keeps access go_on go =
             let served =
@@ -169,15 +169,15 @@ module _ (k : Kind) (first : Lines) (keeps : Keeps k) (start : Ledger) where
           exempt k first E E' st.machine (told_by st) I (λ v r p q x. keep v r p q (drop v r.line x))
         where
           keep :
-              (v : ℕ) (r : Request) → is_waiting (lane_of st.machine v).phase ≡ true
+              (v : ℕ) (r : Request) → is_waiting (warp_row_of st.machine v).phase ≡ true
               → request_of st.machine.queue v ≡ Some r
               → E' v r.line ⊎ ((v ≡ w) × (r.line ≡ line))
-              → E' v r.line ⊎ Blocked (told_by st) r.line (lane_of st.machine v).stamp
+              → E' v r.line ⊎ Blocked (told_by st) r.line (warp_row_of st.machine v).stamp
           keep v r p q (inl x) = inl x
           keep v r p q (inr x) =
               absurd
               (pending_none st.machine w line e
-              (subst (λ u. is_waiting (lane_of st.machine u).phase ≡ true) x.0 p) r
+              (subst (λ u. is_waiting (warp_row_of st.machine u).phase ≡ true) x.0 p) r
               (subst (λ u. request_of st.machine.queue u ≡ Some r) x.0 q) x.1)
       retries_keeps (Some access) e =
           tried_keeps (pending_some st.machine w line access e) access
@@ -260,8 +260,8 @@ module _ (k : Kind) (first : Lines) (keeps : Keeps k) (start : Ledger) where
       -- The end of a transaction, with every try.
       pub ends_keeps :
           (m : Machine k) (w stamp : ℕ)
-          → Inv k first (λ v n. E₀ ⊎ (has n (logged_lines (lane_of m w).log) ≡ true)) (lets_go m w stamp) start
+          → Inv k first (λ v n. E₀ ⊎ (has n (logged_lines (warp_row_of m w).log) ≡ true)) (lets_go m w stamp) start
           → Inv k first (λ v n. E₀) (ends policy m w stamp).machine (told_by (ends policy m w stamp))
       unfolding ends
       ends_keeps m w stamp I =
-          lines_keep (logged_lines (lane_of m w).log) (record { machine = lets_go m w stamp; settled = [] }) I
+          lines_keep (logged_lines (warp_row_of m w).log) (record { machine = lets_go m w stamp; settled = [] }) I

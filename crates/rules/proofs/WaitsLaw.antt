@@ -5,8 +5,8 @@ use Rattle.std.proofs.lemmas.Bool.{both_ways, ltb-true, lt-ltb, le-ltb, cases_eq
 use Rattle.protocol.specs.declared.fault.Fault.{Fault}
 use Rattle.memory.specs.Lines.{Lines}
 use Rattle.book.specs.Meaning.{Kind, counted}
-use Rattle.rules.specs.State.{Machine, idle_at, is_waiting, lane_of}
-use Rattle.rules.specs.Making.{making_fault, first_lanes, make}
+use Rattle.rules.specs.State.{Machine, idle_at, is_waiting, warp_row_of}
+use Rattle.rules.specs.Making.{making_fault, first_warp_rows, make}
 use Rattle.rules.specs.Runs.{run}
 use Rattle.rules.specs.Ledger.{Ledger, ledger_of}
 use Rattle.rules.specs.Laws.{Holds, WaitsFor, Leads, free, onward, waits_now, WaitsEnd, LawOfWaits}
@@ -74,7 +74,7 @@ module _ (k : Kind) (first : Lines) (m : Machine k) (l : Ledger) (I : Inv k firs
   next w p =
       let q = I.waiters w p in
       ⊎_elim (λ e. absurd e)
-      (λ (b : Blocked l q.request.line (lane_of m w).stamp).
+      (λ (b : Blocked l q.request.line (warp_row_of m w).stamp).
       let o = holds_line k first l b.by_warp q.request.line b.at_stamp b.is_held in (
         b.by_warp,
         record {
@@ -84,8 +84,8 @@ module _ (k : Kind) (first : Lines) (m : Machine k) (l : Ledger) (I : Inv k firs
           held = (o.0, o.1, o.2);
           only = λ v h. only_one v b.by_warp q.request.line b.at_stamp h b.is_held;
           falls =
-              let s : o.0.stamp ≡ (lane_of m b.by_warp).stamp =
-              (subst (Matches (lane_of m b.by_warp)) o.1 (I.lanes b.by_warp)).same_stamp
+              let s : o.0.stamp ≡ (warp_row_of m b.by_warp).stamp =
+              (subst (Matches (warp_row_of m b.by_warp)) o.1 (I.warp_rows b.by_warp)).same_stamp
               in
               let f = b.falls in
               let t = o.3 in
@@ -105,10 +105,10 @@ module _ (k : Kind) (first : Lines) (m : Machine k) (l : Ledger) (I : Inv k firs
 
   -- Warps with a smaller stamp.
   abbrev lower : ℕ → ℕ → Bool
-  lower w v = ltb (lane_of m v).stamp (lane_of m w).stamp
+  lower w v = ltb (warp_row_of m v).stamp (warp_row_of m w).stamp
 
   abbrev size : ℕ
-  size = length m.lanes
+  size = length m.warp_rows
 
   leads :
       (fuel w : ℕ) → counted (lower w) size < fuel
@@ -127,17 +127,17 @@ module _ (k : Kind) (first : Lines) (m : Machine k) (l : Ledger) (I : Inv k firs
           let h = n.0 in
           let held = n.1.held in
           let busy =
-          (subst (Matches (lane_of m n.0)) held.1 (I.lanes n.0)).busy
+          (subst (Matches (warp_row_of m n.0)) held.1 (I.warp_rows n.0)).busy
           in
           let inside : n.0 < size = busy_low m n.0 busy in
           let fewer : counted (lower n.0) size < counted (lower w) size =
           counted_fewer (lower n.0) (lower w)
           (λ x p.
-          let a = ltb-true (lane_of m x).stamp (lane_of m n.0).stamp p in
+          let a = ltb-true (warp_row_of m x).stamp (warp_row_of m n.0).stamp p in
           let b = n.1.falls in
-          lt-ltb (lane_of m x).stamp (lane_of m w).stamp (omega arith))
-          size n.0 inside (le-ltb (lane_of m n.0).stamp (lane_of m n.0).stamp (omega arith))
-          (lt-ltb (lane_of m n.0).stamp (lane_of m w).stamp n.1.falls)
+          lt-ltb (warp_row_of m x).stamp (warp_row_of m w).stamp (omega arith))
+          size n.0 inside (le-ltb (warp_row_of m n.0).stamp (warp_row_of m n.0).stamp (omega arith))
+          (lt-ltb (warp_row_of m n.0).stamp (warp_row_of m w).stamp n.1.falls)
           in
           let r = rest n.0 (omega arith) in
           (suc r.0, onward n.1 r.1, let a = r.2 in omega arith)
@@ -145,11 +145,11 @@ module _ (k : Kind) (first : Lines) (m : Machine k) (l : Ledger) (I : Inv k firs
   waits_end : WaitsEnd m l
   waits_end w p =
       let r = leads (suc (counted (lower w) size)) w (omega arith) in
-      let q = I.lanes w in
-      let inside : w < size = busy_low m w (Rattle.rules.proofs.Logs.waiting_busy (lane_of m w).phase p) in
+      let q = I.warp_rows w in
+      let inside : w < size = busy_low m w (Rattle.rules.proofs.Logs.waiting_busy (warp_row_of m w).phase p) in
       let few : counted (lower w) size < size =
       counted_not_all (lower w) size w inside
-      (le-ltb (lane_of m w).stamp (lane_of m w).stamp (omega arith))
+      (le-ltb (warp_row_of m w).stamp (warp_row_of m w).stamp (omega arith))
       in
       (r.0, r.1, let a = r.2 in omega arith)
 
@@ -169,12 +169,12 @@ law_of_waits k keeps policy covers lines book good stamps calls = by_fault (maki
     by_fault (Some f) e =
         let kept =
         refused_stays k policy calls (record { machine = make k lines book stamps; events = [] })
-        (ap (λ o. first_lanes o stamps) e) refl
+        (ap (λ o. first_warp_rows o stamps) e) refl
         in
-        let none : (run policy (make k lines book stamps) calls).machine.lanes ≡ [] =
-        ap (λ (m : Machine k). m.lanes) kept.0 ∙ ap (λ o. first_lanes o stamps) e
+        let none : (run policy (make k lines book stamps) calls).machine.warp_rows ≡ [] =
+        ap (λ (m : Machine k). m.warp_rows) kept.0 ∙ ap (λ o. first_warp_rows o stamps) e
         in
         λ w p.
         absurd
         (both_ways false refl
-        (subst (λ lanes. is_waiting (get_or lanes w (idle_at 0)).phase ≡ true) none p))
+        (subst (λ warp_rows. is_waiting (get_or warp_rows w (idle_at 0)).phase ≡ true) none p))

@@ -6,7 +6,7 @@ use Rattle.book.specs.Meaning.{Kind, released}
 use Rattle.rules.specs.declared.state.Access.{Access}
 use Rattle.rules.specs.declared.state.Phase.TheVariants.{Settled}
 use Rattle.rules.specs.Lists.{distinct}
-use Rattle.rules.specs.State.{Lane, Machine, Settling, idle_at, in_phase, lane_of, time_of, with_book, with_lane}
+use Rattle.rules.specs.State.{WarpRow, Machine, Settling, idle_at, in_phase, warp_row_of, time_of, with_book, with_warp_row}
 use Rattle.rules.specs.State.{with_queue}
 use Rattle.rules.specs.Access.{Verdict, told, retried, own_line, lost, must_wait, go_on}
 use Rattle.rules.specs.Queue.{Policy, without, pending}
@@ -25,15 +25,15 @@ settling w line access outcome = record { warp = w; line = line; access = access
 abbrev pub logged_lines : List (ℕ × ℕ) → List ℕ
 logged_lines log = distinct (map (λ (s : ℕ × ℕ). s.0) log)
 
--- A lane whose request has come out. Its stamp stays until the outcome is fetched.
-abbrev pub with_outcome : Lane → Outcome → Lane
-with_outcome lane outcome = in_phase lane (Settled outcome)
+-- A row whose request has come out. Its stamp stays until the outcome is fetched.
+abbrev pub with_outcome : WarpRow → Outcome → WarpRow
+with_outcome warp_row outcome = in_phase warp_row (Settled outcome)
 
 module _ {k : Kind} where
   -- A request comes out: it leaves the queue, and its warp has an outcome to fetch.
   unfoldable pub settles : Machine k → ℕ → Outcome → Machine k
   settles m w outcome =
-      with_queue (with_lane m w (with_outcome (lane_of m w) outcome)) (without m.queue w)
+      with_queue (with_warp_row m w (with_outcome (warp_row_of m w) outcome)) (without m.queue w)
 
   -- The request is noted as the last that came out.
   abbrev pub comes_out : Woken k → Machine k → ℕ → ℕ → Access → Outcome → Woken k
@@ -67,10 +67,10 @@ module _ {k : Kind} where
   -- All its lines are released, its log is discarded, and its warp is idle at a stamp.
   unfoldable pub lets_go : Machine k → ℕ → ℕ → Machine k
   lets_go m w stamp =
-      with_lane (with_book m (fold (released k) m.book (logged_lines (lane_of m w).log))) w (idle_at stamp)
+      with_warp_row (with_book m (fold (released k) m.book (logged_lines (warp_row_of m w).log))) w (idle_at stamp)
 
   -- Then its lines' waiting requests are tried, line by line.
   unfoldable pub ends : Policy k → Machine k → ℕ → ℕ → Woken k
   ends policy m w stamp =
       fold (wakes policy) (record { machine = lets_go m w stamp; settled = [] })
-      (logged_lines (lane_of m w).log)
+      (logged_lines (warp_row_of m w).log)

@@ -8,7 +8,7 @@ use Rattle.memory.specs.Lines.{Lines}
 use Rattle.book.specs.Meaning.{Kind, Keeps}
 use Rattle.rules.specs.declared.state.Request.{Request}
 use Rattle.rules.specs.Lists.{has}
-use Rattle.rules.specs.State.{is_idle, Machine, lane_of, is_waiting}
+use Rattle.rules.specs.State.{is_idle, Machine, warp_row_of, is_waiting}
 use Rattle.rules.specs.Queue.{Policy, request_of, product}
 use Rattle.rules.specs.Refusals.{fault_of}
 use Rattle.rules.specs.Steps.{answers, step}
@@ -35,7 +35,7 @@ Holds l line h = (tx : Transaction) × (l.current h ≡ Some tx) × (writes tx.d
 
 -- A warp waits.
 abbrev pub waits_now : {k : Kind} → Machine k → ℕ → Bool
-waits_now m w = is_waiting (lane_of m w).phase
+waits_now m w = is_waiting (warp_row_of m w).phase
 
 module _ {k : Kind} (m : Machine k) (l : Ledger) where
   -- A warp waits for a line whose one holder has a smaller stamp.
@@ -45,7 +45,7 @@ module _ {k : Kind} (m : Machine k) (l : Ledger) where
     pub requested : request_of m.queue w ≡ Some request
     pub held : Holds l request.line h
     pub only : (v : ℕ) → Holds l request.line v → v ≡ h
-    pub falls : (lane_of m h).stamp < (lane_of m w).stamp
+    pub falls : (warp_row_of m h).stamp < (warp_row_of m w).stamp
 
   -- From a warp to the holder it waits for, and on, in so many steps, to one that does not wait.
   pub data Leads : ℕ → ℕ → Type 0 where
@@ -54,15 +54,15 @@ module _ {k : Kind} (m : Machine k) (l : Ledger) where
 
   -- Waits end: from every warp that waits, fewer steps than there are warps lead to one that does not.
   abbrev pub WaitsEnd : Type 0
-  WaitsEnd = (w : ℕ) → waits_now m w ≡ true → (steps : ℕ) × Leads w steps × (steps < length m.lanes)
+  WaitsEnd = (w : ℕ) → waits_now m w ≡ true → (steps : ℕ) × Leads w steps × (steps < length m.warp_rows)
 
   -- The tables tell the account: a warp is idle exactly when it has no transaction, and else has its transaction's
   -- stamp and stores; a line that a transaction stored to is its warp's, counted as often, and every other is nobody's.
   pub record TablesAgree : Type 0 where
-    pub idle_warp : (w : ℕ) → l.current w ≡ None → is_idle (lane_of m w).phase ≡ true
-    pub busy_warp : (w : ℕ) (tx : Transaction) → l.current w ≡ Some tx → is_idle (lane_of m w).phase ≡ false
-    pub its_stamp : (w : ℕ) (tx : Transaction) → l.current w ≡ Some tx → (lane_of m w).stamp ≡ tx.stamp
-    pub its_log : (w : ℕ) (tx : Transaction) → l.current w ≡ Some tx → (lane_of m w).log ≡ stores_of tx.deeds
+    pub idle_warp : (w : ℕ) → l.current w ≡ None → is_idle (warp_row_of m w).phase ≡ true
+    pub busy_warp : (w : ℕ) (tx : Transaction) → l.current w ≡ Some tx → is_idle (warp_row_of m w).phase ≡ false
+    pub its_stamp : (w : ℕ) (tx : Transaction) → l.current w ≡ Some tx → (warp_row_of m w).stamp ≡ tx.stamp
+    pub its_log : (w : ℕ) (tx : Transaction) → l.current w ≡ Some tx → (warp_row_of m w).log ≡ stores_of tx.deeds
     pub held_line : (line h : ℕ) → Holds l line h → k.owner m.book line ≡ Some h
     pub held_count :
         (line h : ℕ) (held : Holds l line h) → k.stores m.book line ≡ times_stored held.0.deeds line

@@ -7,7 +7,7 @@ use Rattle.protocol.specs.declared.fault.Fault.{Fault}
 use Rattle.protocol.specs.declared.fault.Refusal.TheVariants.{BadSize, BadStamp}
 use Rattle.memory.specs.Lines.{Lines}
 use Rattle.book.specs.Meaning.{Kind}
-use Rattle.rules.specs.State.{Lane, Machine, idle_at}
+use Rattle.rules.specs.State.{WarpRow, Machine, idle_at}
 use Rattle.rules.specs.Refusals.{unless}
 
 -- The first of some stamps that lies past the end of the clock.
@@ -21,9 +21,9 @@ late_fault None = None
 late_fault (Some stamp) = Some (fault_in_call BadStamp stamp)
 
 -- A machine that is refused has no warps, so it refuses every call.
-abbrev pub first_lanes : Option Fault → List ℕ → List Lane
-first_lanes None stamps = map idle_at stamps
-first_lanes (Some fault) stamps = []
+abbrev pub first_warp_rows : Option Fault → List ℕ → List WarpRow
+first_warp_rows None stamps = map idle_at stamps
+first_warp_rows (Some fault) stamps = []
 
 module _ (k : Kind) where
   -- A machine has from one warp to as many as may be, no first stamp past the end of the clock, and a new book.
@@ -35,4 +35,4 @@ module _ (k : Kind) where
   -- Every warp is idle at its first stamp, and nobody waits.
   abbrev pub make : Lines → k.State → List ℕ → Machine k
   make lines book stamps =
-      record { lines = lines; book = book; lanes = first_lanes (making_fault book stamps) stamps; queue = [] }
+      record { lines = lines; book = book; warp_rows = first_warp_rows (making_fault book stamps) stamps; queue = [] }

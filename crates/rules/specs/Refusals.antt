@@ -13,7 +13,7 @@ use Rattle.protocol.specs.declared.fault.Refusal.TheVariants.{NothingToFetch, No
 use Rattle.book.specs.Meaning.{Kind}
 use Rattle.rules.specs.declared.state.Phase.{Phase}
 use Rattle.rules.specs.declared.state.Phase.TheVariants.{Idle, Open, Waiting, Settled}
-use Rattle.rules.specs.State.{Machine, lane_of}
+use Rattle.rules.specs.State.{Machine, warp_row_of}
 
 -- What a warp may not ask for while it has no transaction, while it may go on, and while an outcome is out.
 abbrev pub idle_refuses : Op → Option Refusal
@@ -62,11 +62,11 @@ module _ {k : Kind} where
 
   -- A line that is lacking, a full log, a clock that is spent.
   abbrev pub number_fault : Machine k → ℕ → Op → Option Fault
-  number_fault m w Begin = unless (nat_le (lane_of m w).stamp last_stamp) ClockSpent (lane_of m w).stamp
+  number_fault m w Begin = unless (nat_le (warp_row_of m w).stamp last_stamp) ClockSpent (warp_row_of m w).stamp
   number_fault m w (Load line) = unless (has_line m line) NoSuchLine line
   number_fault m w (Store line value) =
       option_or (unless (has_line m line) NoSuchLine line)
-      (unless (nat_lt (length (lane_of m w).log) log_limit) LogFull (length (lane_of m w).log))
+      (unless (nat_lt (length (warp_row_of m w).log) log_limit) LogFull (length (warp_row_of m w).log))
   number_fault m w Commit = None
   number_fault m w Drop = None
   number_fault m w Fetch = None
@@ -74,6 +74,6 @@ module _ {k : Kind} where
   -- All refusals, in the order of their numbers: the first is told.
   abbrev pub fault_of : Machine k → Call → Option Fault
   fault_of m call =
-      option_or (unless (nat_lt call.warp (length m.lanes)) NoSuchWarp call.warp)
-      (option_or (faulty (phase_refuses (lane_of m call.warp).phase call.op) call.warp)
+      option_or (unless (nat_lt call.warp (length m.warp_rows)) NoSuchWarp call.warp)
+      (option_or (faulty (phase_refuses (warp_row_of m call.warp).phase call.op) call.warp)
       (number_fault m call.warp call.op))

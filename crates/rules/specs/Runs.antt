@@ -3,7 +3,7 @@ use Rattle.std.specs.Prelude.{ℕ, List, [], ◌∷◌, ◌++◌, fold}
 use Rattle.protocol.specs.declared.answer.Answer.{Answer}
 use Rattle.protocol.specs.declared.call.Call.{Call}
 use Rattle.book.specs.Meaning.{Kind}
-use Rattle.rules.specs.State.{Machine, Settling, lane_of}
+use Rattle.rules.specs.State.{Machine, Settling, warp_row_of}
 use Rattle.rules.specs.Queue.{Policy}
 use Rattle.rules.specs.Steps.{step}
 
@@ -25,7 +25,7 @@ module _ {k : Kind} where
   event_of policy m call =
       let s = step policy m call in
       record
-      { call = call; stamp = (lane_of m call.warp).stamp; answer = s.answer; settled = s.settled }
+      { call = call; stamp = (warp_row_of m call.warp).stamp; answer = s.answer; settled = s.settled }
 
   -- One call more.
   unfoldable pub goes_on : Policy k → Run k → Call → Run k

@@ -8,7 +8,7 @@ use Rattle.book.specs.Meaning.{Kind, noted, taken, added}
 use Rattle.rules.specs.declared.state.Access.{Access}
 use Rattle.rules.specs.declared.state.Access.TheVariants.{Read, Write}
 use Rattle.rules.specs.Lists.{last_stored}
-use Rattle.rules.specs.State.{Machine, logging, lane_of, time_of, with_book, with_lane}
+use Rattle.rules.specs.State.{Machine, logging, warp_row_of, time_of, with_book, with_warp_row}
 
 -- What a served load or store leaves.
 pub record Served (k : Kind) : Type 0 where
@@ -25,7 +25,7 @@ module _ {k : Kind} where
   reads m w line = with_book m (noted k m.book line (time_of m w))
 
   abbrev pub logs : Machine k → ℕ → ℕ → ℕ → Machine k
-  logs m w line value = with_lane m w (logging (lane_of m w) line value)
+  logs m w line value = with_warp_row m w (logging (warp_row_of m w) line value)
 
   -- On a line that is nobody's: a load gives the memory's value, a store reserves the line.
   unfoldable pub serves : Machine k → ℕ → ℕ → Access → Served k
@@ -39,7 +39,7 @@ module _ {k : Kind} where
   serves_own m w line Read =
       record {
         machine = reads m w line;
-        outcome = Value (unwrap_or (last_stored (lane_of m w).log line) (memory_value m line));
+        outcome = Value (unwrap_or (last_stored (warp_row_of m w).log line) (memory_value m line));
       }
   serves_own m w line (Write value) =
       record { machine = logs (with_book m (added k m.book line)) w line value; outcome = Stored }

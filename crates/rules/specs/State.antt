@@ -10,17 +10,17 @@ use Rattle.rules.specs.declared.state.Phase.TheVariants.{Idle, Open, Waiting, Se
 use Rattle.rules.specs.declared.state.Request.{Request}
 
 -- A warp: what it is doing, its stamp, and its log: what its transaction stored, line and value, in the order made.
-pub record Lane : Type 0 where
+pub record WarpRow : Type 0 where
   pub phase : Phase
   pub stamp : ℕ
   pub log : List (ℕ × ℕ)
 
--- The machine: its memory and its book by their meanings, a lane for each warp, and the requests that wait, in the
+-- The machine: its memory and its book by their meanings, a row for each warp, and the requests that wait, in the
 -- order in which they came.
 pub record Machine (k : Kind) : Type 0 where
   pub lines : Lines
   pub book : k.State
-  pub lanes : List Lane
+  pub warp_rows : List WarpRow
   pub queue : List Request
 
 -- A request that waited has come out.
@@ -31,7 +31,7 @@ pub record Settling : Type 0 where
   pub outcome : Outcome
 
 -- A warp without a transaction; also what a warp that the machine lacks is taken for.
-abbrev pub idle_at : ℕ → Lane
+abbrev pub idle_at : ℕ → WarpRow
 idle_at stamp = record { phase = Idle; stamp = stamp; log = [] }
 
 -- What a phase says.
@@ -47,32 +47,32 @@ is_waiting Open = false
 is_waiting Waiting = true
 is_waiting (Settled outcome) = false
 
--- A lane in another phase; a lane with one store more.
-abbrev pub in_phase : Lane → Phase → Lane
-in_phase lane phase = record { phase = phase; stamp = lane.stamp; log = lane.log }
+-- A row in another phase; a row with one store more.
+abbrev pub in_phase : WarpRow → Phase → WarpRow
+in_phase warp_row phase = record { phase = phase; stamp = warp_row.stamp; log = warp_row.log }
 
-abbrev pub logging : Lane → ℕ → ℕ → Lane
-logging lane line value =
-    record { phase = lane.phase; stamp = lane.stamp; log = lane.log ++ (line, value) ∷ [] }
+abbrev pub logging : WarpRow → ℕ → ℕ → WarpRow
+logging warp_row line value =
+    record { phase = warp_row.phase; stamp = warp_row.stamp; log = warp_row.log ++ (line, value) ∷ [] }
 
 module _ {k : Kind} where
-  -- The lane of a warp.
-  abbrev pub lane_of : Machine k → ℕ → Lane
-  lane_of m w = slice_index_or m.lanes w (idle_at 0)
+  -- The row of a warp.
+  abbrev pub warp_row_of : Machine k → ℕ → WarpRow
+  warp_row_of m w = slice_index_or m.warp_rows w (idle_at 0)
 
   -- The logical time of a warp's transaction.
   abbrev pub time_of : Machine k → ℕ → Time
-  time_of m w = ((lane_of m w).stamp, w)
+  time_of m w = ((warp_row_of m w).stamp, w)
 
-  -- A machine with another memory, book, lane or queue.
+  -- A machine with another memory, book, row or queue.
   abbrev pub with_lines : Machine k → Lines → Machine k
-  with_lines m lines = record { lines = lines; book = m.book; lanes = m.lanes; queue = m.queue }
+  with_lines m lines = record { lines = lines; book = m.book; warp_rows = m.warp_rows; queue = m.queue }
 
   abbrev pub with_book : Machine k → k.State → Machine k
-  with_book m book = record { lines = m.lines; book = book; lanes = m.lanes; queue = m.queue }
+  with_book m book = record { lines = m.lines; book = book; warp_rows = m.warp_rows; queue = m.queue }
 
-  abbrev pub with_lane : Machine k → ℕ → Lane → Machine k
-  with_lane m w lane = record { lines = m.lines; book = m.book; lanes = slice_set m.lanes w lane; queue = m.queue }
+  abbrev pub with_warp_row : Machine k → ℕ → WarpRow → Machine k
+  with_warp_row m w warp_row = record { lines = m.lines; book = m.book; warp_rows = slice_set m.warp_rows w warp_row; queue = m.queue }
 
   abbrev pub with_queue : Machine k → List Request → Machine k
-  with_queue m queue = record { lines = m.lines; book = m.book; lanes = m.lanes; queue = queue }
+  with_queue m queue = record { lines = m.lines; book = m.book; warp_rows = m.warp_rows; queue = queue }

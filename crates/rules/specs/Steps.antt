@@ -15,7 +15,7 @@ use Rattle.rules.specs.declared.state.Access.{Access}
 use Rattle.rules.specs.declared.state.Access.TheVariants.{Read, Write}
 use Rattle.rules.specs.declared.state.Phase.{Phase}
 use Rattle.rules.specs.declared.state.Phase.TheVariants.{Idle, Open, Waiting, Settled}
-use Rattle.rules.specs.State.{Machine, Settling, in_phase, lane_of, time_of, with_lines, with_lane, with_queue}
+use Rattle.rules.specs.State.{Machine, Settling, in_phase, warp_row_of, time_of, with_lines, with_warp_row, with_queue}
 use Rattle.rules.specs.Access.{Verdict, told, decide, own_line, lost, must_wait, go_on}
 use Rattle.rules.specs.Queue.{Policy, is_full}
 use Rattle.rules.specs.Refusals.{fault_of}
@@ -42,12 +42,12 @@ module _ {k : Kind} where
 
   -- A commit first writes the log to memory.
   abbrev pub writes_back : Machine k → ℕ → Machine k
-  writes_back m w = with_lines m (written m.lines (lane_of m w).log)
+  writes_back m w = with_lines m (written m.lines (warp_row_of m w).log)
 
   -- A request joins the queue, behind all others.
   unfoldable pub waits : Machine k → ℕ → ℕ → Access → Machine k
   waits m w line access =
-      with_queue (with_lane m w (in_phase (lane_of m w) Waiting))
+      with_queue (with_warp_row m w (in_phase (warp_row_of m w) Waiting))
       (m.queue ++ record { warp = w; line = line; access = access } ∷ [])
 
   -- A load or a store by its verdict.
@@ -71,8 +71,8 @@ module _ {k : Kind} where
   -- A fetched outcome: after a value or a store the warp goes on; gone, its transaction ends.
   unfoldable pub fetched : Policy k → Machine k → ℕ → Outcome → Step k
   fetched policy m w (Value value) =
-      answers (with_lane m w (in_phase (lane_of m w) Open)) (answer_of (Value value))
-  fetched policy m w Stored = answers (with_lane m w (in_phase (lane_of m w) Open)) (answer_of Stored)
+      answers (with_warp_row m w (in_phase (warp_row_of m w) Open)) (answer_of (Value value))
+  fetched policy m w Stored = answers (with_warp_row m w (in_phase (warp_row_of m w) Open)) (answer_of Stored)
   fetched policy m w (Lost cause next) = ended (ends policy m w next) (answer_of (Lost cause next))
 
   -- A fetch by what its warp is doing. A warp that is idle or open is refused before; it would be told to wait.
@@ -85,12 +85,12 @@ module _ {k : Kind} where
   -- A call that is not refused.
   abbrev pub granted : Policy k → Machine k → ℕ → Op → Step k
   granted policy m w Begin =
-      answers (with_lane m w (record { phase = Open; stamp = (lane_of m w).stamp; log = [] })) Ok
+      answers (with_warp_row m w (record { phase = Open; stamp = (warp_row_of m w).stamp; log = [] })) Ok
   granted policy m w (Load line) = accesses policy m w line Read
   granted policy m w (Store line value) = accesses policy m w line (Write value)
-  granted policy m w Commit = ended (ends policy (writes_back m w) w (lane_of m w).stamp) Ok
-  granted policy m w Drop = ended (ends policy m w (lane_of m w).stamp) Ok
-  granted policy m w Fetch = fetches policy m w (lane_of m w).phase
+  granted policy m w Commit = ended (ends policy (writes_back m w) w (warp_row_of m w).stamp) Ok
+  granted policy m w Drop = ended (ends policy m w (warp_row_of m w).stamp) Ok
+  granted policy m w Fetch = fetches policy m w (warp_row_of m w).phase
 
   -- A refused call changes nothing.
   abbrev pub checked : Policy k → Machine k → Call → Option Fault → Step k

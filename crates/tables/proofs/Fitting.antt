@@ -4,14 +4,14 @@ use Rattle.std.proofs.lemmas.List.{get_or-set_other, length-map, length-set}
 use Rattle.std.proofs.lemmas.Bool.Decides.{nat_tests}
 use Rattle.std.proofs.lemmas.Bool.{and_parts, and_from, both_ways, not-true, not_from_false}
 use Rattle.rules.specs.Queue.{request_of, without}
-use Rattle.rules.specs.State.{Lane, in_phase, is_waiting}
+use Rattle.rules.specs.State.{WarpRow, in_phase, is_waiting}
 use Rattle.rules.specs.declared.state.Access.{Access}
 use Rattle.rules.specs.declared.state.Access.TheVariants.{Read, Write}
 use Rattle.rules.specs.declared.state.Phase.{Phase}
 use Rattle.rules.specs.declared.state.Request.{Request}
-use Rattle.tables.proofs.Lanes.{lane_row, log_long}
-use Rattle.tables.specs.Pages.{lanes, queued, lane, lane_at, has_room}
-use Rattle.tables.specs.Rows.{no_row, lane_in}
+use Rattle.tables.proofs.WarpRows.{warp_row_row, log_long}
+use Rattle.tables.specs.Pages.{warp_rows, queued, warp_row, warp_row_at, has_room}
+use Rattle.tables.specs.Rows.{no_row, warp_row_in}
 use Rattle.tables.specs.Sound.{fits, sound, Sound}
 use Rattle.tables.specs.declared.row.Row.{Row}
 use Rattle.tables.specs.declared.state.Tables.{Tables}
@@ -162,8 +162,8 @@ few_requests rows (r ∷ rest) s =
     omega arith
 
 row_waits :
-    (rows : List Row) (w : ℕ) → is_waiting (lane_at (map lane_in rows) w).phase ≡ false → waits_in rows w ≡ false
-row_waits rows w idle = ap (λ (l : Lane). is_waiting l.phase) (sym (lane_row rows w)) ∙ idle
+    (rows : List Row) (w : ℕ) → is_waiting (warp_row_at (map warp_row_in rows) w).phase ≡ false → waits_in rows w ≡ false
+row_waits rows w idle = ap (λ (l : WarpRow). is_waiting l.phase) (sym (warp_row_row rows w)) ∙ idle
 
 room_for_one :
     (rows : List Row) (q : List Request) (w : ℕ) → Sound rows q → w < length rows → waits_in rows w ≡ false
@@ -174,19 +174,19 @@ room_for_one rows q w s l e =
     omega arith
 
 -- The room for a request does not hang on the phase.
-pub room_in_phase : (l : Lane) (phase : Phase) (access : Access) → has_room (in_phase l phase) access ≡ has_room l access
+pub room_in_phase : (l : WarpRow) (phase : Phase) (access : Access) → has_room (in_phase l phase) access ≡ has_room l access
 room_in_phase l phase Read = refl
 room_in_phase l phase (Write value) = refl
 
--- A row may have a request that its lane waits for and has room for.
-pub fits_lane :
-    (row : Row) (access : Access) → is_waiting row.phase ≡ true → has_room (lane_in row) access ≡ true
+-- A row may have a request, if its warp waits for it and has room for it.
+pub fits_warp_row :
+    (row : Row) (access : Access) → is_waiting row.phase ≡ true → has_room (warp_row_in row) access ≡ true
     → fits row access ≡ true
-fits_lane row Read e room = e
-fits_lane row (Write value) e room =
+fits_warp_row row Read e room = e
+fits_warp_row row (Write value) e room =
     and_from _ _ e (subst (λ n. ltb n 32 ≡ true) (log_long row) room)
 
-room_of : (row : Row) (access : Access) → fits row access ≡ true → has_room (lane_in row) access ≡ true
+room_of : (row : Row) (access : Access) → fits row access ≡ true → has_room (warp_row_in row) access ≡ true
 room_of row Read e = refl
 room_of row (Write value) e =
     subst (λ n. ltb n 32 ≡ true) (sym (log_long row)) (and_parts (is_waiting row.phase) _ e).1
@@ -195,18 +195,18 @@ room_of row (Write value) e =
 module _ (t : Tables) where
   -- What a request asks for has room.
   pub pending_room :
-      (w : ℕ) (r : Request) → Some r ≡ request_of (queued t) w → has_room (lane t w) r.access ≡ true
+      (w : ℕ) (r : Request) → Some r ≡ request_of (queued t) w → has_room (warp_row t w) r.access ≡ true
   pending_room w r asked =
-      ap (λ l. has_room l r.access) (lane_row t.rows.items w)
+      ap (λ l. has_room l r.access) (warp_row_row t.rows.items w)
       ∙ room_of (get_or t.rows.items w no_row) r.access (request_fits t.rows.items (queued t) w r t.sound (sym asked))
 
   -- A warp that does not wait has no request, and there is room for one.
-  pub free : (w : ℕ) → is_waiting (lane t w).phase ≡ false → asks (queued t) w ≡ false
+  pub free : (w : ℕ) → is_waiting (warp_row t w).phase ≡ false → asks (queued t) w ≡ false
   free w idle = no_request_of t.rows.items (queued t) w t.sound (row_waits t.rows.items w idle)
 
-  pub room_for : (w : ℕ) → w < length (lanes t) → is_waiting (lane t w).phase ≡ false → length (queued t) < 32
+  pub room_for : (w : ℕ) → w < length (warp_rows t) → is_waiting (warp_row t w).phase ≡ false → length (queued t) < 32
   room_for w low idle =
-      let long = length-map t.rows.items lane_in in
+      let long = length-map t.rows.items warp_row_in in
       let count = t.count in
       let room = room_for_one t.rows.items (queued t) w t.sound (omega arith) (row_waits t.rows.items w idle) in
       omega arith
@@ -222,12 +222,12 @@ module _ (t : Tables) where
         sound_set t.rows.items (queued t) w row t.sound none,
       )
 
-  -- A request may come of a warp that has none, once its lane waits and has room for it.
+  -- A request may come of a warp that has none, once its row waits and has room for it.
   pub request_may_come :
-      (r : Request) (l : Lane) → asks (queued t) r.warp ≡ false → lane t r.warp ≡ l
+      (r : Request) (l : WarpRow) → asks (queued t) r.warp ≡ false → warp_row t r.warp ≡ l
       → is_waiting l.phase ≡ true → has_room l r.access ≡ true → Sound t.rows.items (queued t ++ r ∷ [])
   request_may_come r l none is waits room =
-      let here : lane_in (get_or t.rows.items r.warp no_row) ≡ l = sym (lane_row t.rows.items r.warp) ∙ is in
+      let here : warp_row_in (get_or t.rows.items r.warp no_row) ≡ l = sym (warp_row_row t.rows.items r.warp) ∙ is in
       sound_push t.rows.items (queued t) r t.sound none
-      (fits_lane (get_or t.rows.items r.warp no_row) r.access (ap (λ (x : Lane). is_waiting x.phase) here ∙ waits)
-      (ap (λ (x : Lane). has_room x r.access) here ∙ room))
+      (fits_warp_row (get_or t.rows.items r.warp no_row) r.access (ap (λ (x : WarpRow). is_waiting x.phase) here ∙ waits)
+      (ap (λ (x : WarpRow). has_room x r.access) here ∙ room))

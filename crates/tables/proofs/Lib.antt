@@ -1,4 +1,4 @@
 mod Words
-pub mod Lanes
+pub mod WarpRows
 mod Fitting
 mod Order

@@ -1,7 +1,7 @@
 -- What stores, logs and rows mean.
 use Rattle.std.specs.Prelude.{ℕ, List, map, take, replicate, refl}
 use Rattle.std.proofs.Common.{lit<, lit≤}
-use Rattle.rules.specs.State.{Lane}
+use Rattle.rules.specs.State.{WarpRow}
 use Rattle.rules.specs.declared.state.Phase.TheVariants.{Idle}
 use Rattle.tables.specs.declared.row.Store.{Store}
 use Rattle.tables.specs.declared.row.Log.{Log}
@@ -22,9 +22,9 @@ log_of log = map pair_of log.stores.items
 abbrev pub lines_in : List (ℕ × ℕ) → List ℕ
 lines_in stores = map (λ (s : ℕ × ℕ). s.0) stores
 
--- A row is a lane.
-abbrev pub lane_in : Row → Lane
-lane_in row = record { phase = row.phase; stamp = row.stamp; log = logged row.len row.stores }
+-- A row of the table is a row of the rules.
+abbrev pub warp_row_in : Row → WarpRow
+warp_row_in row = record { phase = row.phase; stamp = row.stamp; log = logged row.len row.stores }
 
 -- What stands in places that are not in use.
 abbrev pub no_store : Store

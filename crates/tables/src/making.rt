@@ -1,7 +1,7 @@
 //! New tables.
 ghost use Rattle.std.specs.Prelude.{◌≡◌, ◌≤◌, [], map, length};
 ghost use Rattle.rules.specs.State.{idle_at};
-ghost use Rattle.tables.specs.Pages.{lanes, queued};
+ghost use Rattle.tables.specs.Pages.{warp_rows, queued};
 
 use crate::queue::Queue;
 use crate::row::Row;
@@ -12,7 +12,7 @@ impl Tables {
     /// Idle warps at their first stamps.
     pub fn new(stamps: &[u32]) -> Tables
         requires { length stamps.now ≤ 32 }
-        ensures lanes { lanes result ≡ map idle_at stamps.now }
+        ensures warp_rows { warp_rows result ≡ map idle_at stamps.now }
         ensures queue { queued result ≡ [] }
     {
         let mut rows = ArrayVec::new();

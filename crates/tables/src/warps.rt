@@ -6,8 +6,8 @@ ghost use Rattle.rules.specs.Queue.{request_of, requests_on, without, is_full};
 ghost use Rattle.rules.specs.State.{idle_at, in_phase, logging, is_waiting};
 ghost use Rattle.rules.specs.declared.state.Phase.TheVariants.{Open, Waiting, Settled};
 ghost use Rattle.tables.specs.Lists.{place_at};
-ghost use Rattle.tables.specs.Rows.{log_of, lines_in, lane_in};
-ghost use Rattle.tables.specs.Pages.{lanes, queued, lane, open_at, pending_at, room_for, has_room};
+ghost use Rattle.tables.specs.Rows.{log_of, lines_in, warp_row_in};
+ghost use Rattle.tables.specs.Pages.{warp_rows, queued, warp_row, open_at, pending_at, room_for, has_room};
 
 use crate::row::{Log, Row, Store};
 use crate::state::Tables;
@@ -16,7 +16,7 @@ use rules::state::{Access, Phase, Request};
 
 // By hand, since a derived one is refused beside a ghost field.
 impl Default for Row {
-    ghost is_default = { λ row. lane_in row ≡ idle_at 0 };
+    ghost is_default = { λ row. warp_row_in row ≡ idle_at 0 };
 
     fn default() -> Row {
         Row::idle(0)
@@ -26,7 +26,7 @@ impl Default for Row {
 impl Row {
     /// The row of a warp without a transaction.
     pub(crate) fn idle(stamp: u64) -> Row
-        ensures { lane_in result ≡ idle_at stamp }
+        ensures { warp_row_in result ≡ idle_at stamp }
     {
         Row {
             phase: Phase::Idle,
@@ -38,28 +38,28 @@ impl Row {
 
     /// The row's log.
     fn log(&self) -> Log
-        ensures { log_of result ≡ (lane_in self.now).log }
+        ensures { log_of result ≡ (warp_row_in self.now).log }
     {
         Log::of(self.len, &self.stores).unwrap()
     }
 
     /// The first store of each line in the row's log, in their order.
     fn firsts(&self) -> Log
-        ensures { lines_in (log_of result) ≡ logged_lines (lane_in self.now).log }
+        ensures { lines_in (log_of result) ≡ logged_lines (warp_row_in self.now).log }
     {
         Log::firsts_of(&self.stores[..self.len])
     }
 
     /// Another phase.
     fn enter(&mut self, phase: Phase)
-        ensures { lane_in self.new ≡ in_phase (lane_in self.old) phase }
+        ensures { warp_row_in self.new ≡ in_phase (warp_row_in self.old) phase }
     {
         self.phase = phase;
     }
 
     /// A phase and a stamp, with an empty log.
     fn start(&mut self, phase: Phase, stamp: u64)
-        ensures { lane_in self.new ≡ record { phase = phase; stamp = stamp; log = [] } }
+        ensures { warp_row_in self.new ≡ record { phase = phase; stamp = stamp; log = [] } }
     {
         self.phase = phase;
         self.stamp = stamp;
@@ -68,8 +68,8 @@ impl Row {
 
     /// One store more.
     fn log_store(&mut self, store: Store)
-        requires { length (lane_in self.old).log < log_limit }
-        ensures { lane_in self.new ≡ logging (lane_in self.old) store.line store.value }
+        requires { length (warp_row_in self.old).log < log_limit }
+        ensures { warp_row_in self.new ≡ logging (warp_row_in self.old) store.line store.value }
     {
         let log = self.log().push(store).unwrap();
         // Tried copy_from_slice: the checker lends no field beside an invariant, and a copied array costs speed.
@@ -83,49 +83,49 @@ impl Row {
 impl Tables {
     /// How many warps there are.
     pub fn warps(&self) -> usize
-        ensures { result ≡ length (lanes self.now) }
+        ensures { result ≡ length (warp_rows self.now) }
     {
         self.rows.len()
     }
 
     /// A warp's row, if it has one.
     fn row(&self, warp: u32) -> Option<&Row>
-        ensures { MatchOption result (lane self.now warp ≡ idle_at 0) (λ row. lane_in row.now ≡ lane self.now warp) }
+        ensures { MatchOption result (warp_row self.now warp ≡ idle_at 0) (λ row. warp_row_in row.now ≡ warp_row self.now warp) }
     {
         self.rows.get(warp as usize)
     }
 
     /// What a warp is doing.
     pub fn phase(&self, warp: u32) -> Phase
-        ensures { result ≡ (lane self.now warp).phase }
+        ensures { result ≡ (warp_row self.now warp).phase }
     {
         self.row(warp).map_or(Phase::Idle, |row| row.phase)
     }
 
     /// A warp's stamp.
     pub fn stamp(&self, warp: u32) -> u64
-        ensures { result ≡ (lane self.now warp).stamp }
+        ensures { result ≡ (warp_row self.now warp).stamp }
     {
         self.row(warp).map_or(0, |row| row.stamp)
     }
 
     /// How many stores a warp has logged.
     pub fn stored(&self, warp: u32) -> usize
-        ensures { result ≡ length (lane self.now warp).log }
+        ensures { result ≡ length (warp_row self.now warp).log }
     {
         self.row(warp).map_or(0, |row| row.len)
     }
 
     /// A warp's log.
     pub fn log(&self, warp: u32) -> Log
-        ensures { log_of result ≡ (lane self.now warp).log }
+        ensures { log_of result ≡ (warp_row self.now warp).log }
     {
         self.row(warp).map_or_else(Log::new, Row::log)
     }
 
     /// The first store of each line in a warp's log, in their order.
     pub fn firsts(&self, warp: u32) -> Log
-        ensures { lines_in (log_of result) ≡ logged_lines (lane self.now warp).log }
+        ensures { lines_in (log_of result) ≡ logged_lines (warp_row self.now warp).log }
     {
         self.row(warp).map_or_else(Log::new, Row::firsts)
     }
@@ -160,8 +160,8 @@ impl Tables {
 
     /// What a warp waits to do at a line, if it does.
     pub fn pending(&self, warp: u32, line: u32) -> Option<Access>
-        ensures value { result ≡ pending_at (lanes self.now) (queued self.now) warp line }
-        ensures room { room_for (lane self.now warp) result ≡ true }
+        ensures value { result ≡ pending_at (warp_rows self.now) (queued self.now) warp line }
+        ensures room { room_for (warp_row self.now warp) result ≡ true }
     {
         let Phase::Waiting = self.phase(warp) else {
             return None;
@@ -176,9 +176,9 @@ impl Tables {
     // That a warp does not wait holds between two calls only, so each call asks for it, and no type keeps it.
     /// Sets what a warp is doing and its stamp, with an empty log.
     fn start(&mut self, warp: u32, phase: Phase, stamp: u64)
-        requires { is_waiting (lane self.old warp).phase ≡ false }
-        ensures lanes { lanes self.new
-            ≡ slice_set (lanes self.old) warp (record { phase = phase; stamp = stamp; log = [] }) }
+        requires { is_waiting (warp_row self.old warp).phase ≡ false }
+        ensures warp_rows { warp_rows self.new
+            ≡ slice_set (warp_rows self.old) warp (record { phase = phase; stamp = stamp; log = [] }) }
         ensures queue { queued self.new ≡ queued self.old }
     {
         if let Some(row) = self.rows.get_mut(warp as usize) {
@@ -188,9 +188,9 @@ impl Tables {
 
     /// Opens a transaction with an empty log.
     pub fn open(&mut self, warp: u32)
-        requires { is_waiting (lane self.old warp).phase ≡ false }
-        ensures lanes { lanes self.new
-            ≡ slice_set (lanes self.old) warp (open_at (lane self.old warp).stamp) }
+        requires { is_waiting (warp_row self.old warp).phase ≡ false }
+        ensures warp_rows { warp_rows self.new
+            ≡ slice_set (warp_rows self.old) warp (open_at (warp_row self.old warp).stamp) }
         ensures queue { queued self.new ≡ queued self.old }
     {
         let stamp = self.stamp(warp);
@@ -199,8 +199,8 @@ impl Tables {
 
     /// Ends a transaction: the warp is idle at a stamp.
     pub fn rest(&mut self, warp: u32, stamp: u64)
-        requires { is_waiting (lane self.old warp).phase ≡ false }
-        ensures lanes { lanes self.new ≡ slice_set (lanes self.old) warp (idle_at stamp) }
+        requires { is_waiting (warp_row self.old warp).phase ≡ false }
+        ensures warp_rows { warp_rows self.new ≡ slice_set (warp_rows self.old) warp (idle_at stamp) }
         ensures queue { queued self.new ≡ queued self.old }
     {
         self.start(warp, Phase::Idle, stamp);
@@ -209,8 +209,8 @@ impl Tables {
     /// Sets what a warp is doing.
     fn enter(&mut self, warp: u32, phase: Phase)
         requires { is_some (request_of (queued self.old) warp) ≡ false }
-        ensures lanes { lanes self.new
-            ≡ slice_set (lanes self.old) warp (in_phase (lane self.old warp) phase) }
+        ensures warp_rows { warp_rows self.new
+            ≡ slice_set (warp_rows self.old) warp (in_phase (warp_row self.old warp) phase) }
         ensures queue { queued self.new ≡ queued self.old }
     {
         if let Some(row) = self.rows.get_mut(warp as usize) {
@@ -220,9 +220,9 @@ impl Tables {
 
     /// Lets a warp go on.
     pub fn resume(&mut self, warp: u32)
-        requires { is_waiting (lane self.old warp).phase ≡ false }
-        ensures lanes { lanes self.new
-            ≡ slice_set (lanes self.old) warp (in_phase (lane self.old warp) Open) }
+        requires { is_waiting (warp_row self.old warp).phase ≡ false }
+        ensures warp_rows { warp_rows self.new
+            ≡ slice_set (warp_rows self.old) warp (in_phase (warp_row self.old warp) Open) }
         ensures queue { queued self.new ≡ queued self.old }
     {
         self.enter(warp, Phase::Open);
@@ -230,10 +230,10 @@ impl Tables {
 
     /// Logs a store.
     pub fn log_store(&mut self, warp: u32, store: Store)
-        requires free { is_waiting (lane self.old warp).phase ≡ false }
-        requires room { length (lane self.old warp).log < log_limit }
-        ensures lanes { lanes self.new ≡ slice_set (lanes self.old) warp
-            (logging (lane self.old warp) store.line store.value) }
+        requires free { is_waiting (warp_row self.old warp).phase ≡ false }
+        requires room { length (warp_row self.old warp).log < log_limit }
+        ensures warp_rows { warp_rows self.new ≡ slice_set (warp_rows self.old) warp
+            (logging (warp_row self.old warp) store.line store.value) }
         ensures queue { queued self.new ≡ queued self.old }
     {
         if let Some(row) = self.rows.get_mut(warp as usize) {
@@ -243,11 +243,11 @@ impl Tables {
 
     /// Lets a request wait, behind all others.
     pub fn wait(&mut self, request: Request)
-        requires inside { request.warp < length (lanes self.old) }
-        requires free { is_waiting (lane self.old request.warp).phase ≡ false }
-        requires room { has_room (lane self.old request.warp) request.access ≡ true }
-        ensures lanes { lanes self.new ≡ slice_set (lanes self.old) request.warp
-            (in_phase (lane self.old request.warp) Waiting) }
+        requires inside { request.warp < length (warp_rows self.old) }
+        requires free { is_waiting (warp_row self.old request.warp).phase ≡ false }
+        requires room { has_room (warp_row self.old request.warp) request.access ≡ true }
+        ensures warp_rows { warp_rows self.new ≡ slice_set (warp_rows self.old) request.warp
+            (in_phase (warp_row self.old request.warp) Waiting) }
         ensures queue { queued self.new ≡ queued self.old ++ request ∷ [] }
     {
         self.enter(request.warp, Phase::Waiting);
@@ -256,8 +256,8 @@ impl Tables {
 
     /// A request comes out: it leaves the queue, and its warp has an outcome to fetch.
     pub fn settle(&mut self, warp: u32, outcome: Outcome)
-        ensures lanes { lanes self.new ≡ slice_set (lanes self.old) warp
-            (in_phase (lane self.old warp) (Settled outcome)) }
+        ensures warp_rows { warp_rows self.new ≡ slice_set (warp_rows self.old) warp
+            (in_phase (warp_row self.old warp) (Settled outcome)) }
         ensures queue { queued self.new ≡ without (queued self.old) warp }
     {
         self.queue.take_out(warp);

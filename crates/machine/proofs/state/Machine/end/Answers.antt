@@ -1,6 +1,6 @@
 -- Released, at rest, and then woken.
 use Rattle.std.proofs.Common.{map, ap, ◌∙◌}
-use Rattle.tables.specs.Pages.{lanes, queued}
+use Rattle.tables.specs.Pages.{warp_rows, queued}
 use Rattle.tables.specs.Rows.{pair_of, lines_in}
 use Rattle.machine.specs.Meaning.{state}
 use Rattle.machine.proofs.Ended.{ended_is}
@@ -13,5 +13,5 @@ returns g c =
     ended_is m c.args.warp c.args.stamp
     (state g.M.Memory.at g.B.Book.kind g.B.Book.model c.release_all.new.self)
     (state g.M.Memory.at g.B.Book.kind g.B.Book.model c.wake_all.new.self)
-    (lanes c.rest.new.self) (queued c.rest.new.self) (lines_in (map pair_of c.stores-stores.result.now)) is
-    c.release_all.ensures c.rest.ensures.lanes c.rest.ensures.queue c.wake_all.ensures
+    (warp_rows c.rest.new.self) (queued c.rest.new.self) (lines_in (map pair_of c.stores-stores.result.now)) is
+    c.release_all.ensures c.rest.ensures.warp_rows c.rest.ensures.queue c.wake_all.ensures

@@ -1,5 +1,5 @@
 -- By the outcome.
-use Rattle.tables.specs.Pages.{lanes, queued}
+use Rattle.tables.specs.Pages.{warp_rows, queued}
 use Rattle.machine.specs.Meaning.{state}
 use Rattle.machine.proofs.Accessed.{fetched_on, fetched_gone}
 use Rattle.machine.proofs.state.Machine.hand_over.Goals as goal
@@ -16,7 +16,7 @@ returns-in-Gone g c =
 pub returns : goal.returns
 returns g c =
     let m = state g.M.Memory.at g.B.Book.kind g.B.Book.model c.args.self.now in
-    let done = fetched_on m c.args.warp (lanes c.resume.new.self) (queued c.resume.new.self) c.into.result
+    let done = fetched_on m c.args.warp (warp_rows c.resume.new.self) (queued c.resume.new.self) c.into.result
     c.args.outcome (λ cause next is. c.in_default.not-Gone cause next is)
-    c.resume.ensures.lanes c.resume.ensures.queue c.into.ensures in
+    c.resume.ensures.warp_rows c.resume.ensures.queue c.into.ensures in
     record { after = done.machine; answer = done.says }

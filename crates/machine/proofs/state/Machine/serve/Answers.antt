@@ -1,7 +1,7 @@
 -- By the access: a load notes, a store reserves and logs.
-use Rattle.tables.specs.Pages.{lanes}
+use Rattle.tables.specs.Pages.{warp_rows}
 use Rattle.machine.specs.Meaning.{state}
-use Rattle.machine.proofs.Served.{log_lanes, read_served, read_value, write_served, write_stored}
+use Rattle.machine.proofs.Served.{log_warp_rows, read_served, read_value, write_served, write_stored}
 use Rattle.machine.proofs.state.Machine.serve.Goals as goal
 
 pub returns-in-Read : goal.returns-in-Read
@@ -20,11 +20,11 @@ returns-in-Write g c =
     let w = c.args.request.warp in
     let line = c.args.request.line in
     record {
-      after = write_served m w line mid (lanes c.log_store.new.self) _ c.in-Write.value c.args.request.access
+      after = write_served m w line mid (warp_rows c.log_store.new.self) _ c.in-Write.value c.args.request.access
           c.in-Write.is
           c.reserve.ensures
-          (log_lanes m w line mid.lanes (lanes c.log_store.new.self) c.of.result c.in-Write.value
-          c.of.ensures c.log_store.ensures.lanes)
+          (log_warp_rows m w line mid.warp_rows (warp_rows c.log_store.new.self) c.of.result c.in-Write.value
+          c.of.ensures c.log_store.ensures.warp_rows)
           c.log_store.ensures.queue;
       answer = write_stored m w line c.in-Write.value c.args.request.access c.in-Write.is;
     }

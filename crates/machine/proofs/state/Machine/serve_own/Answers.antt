@@ -1,7 +1,7 @@
 -- By the access: a load notes, a store is counted and logged.
-use Rattle.tables.specs.Pages.{lanes}
+use Rattle.tables.specs.Pages.{warp_rows}
 use Rattle.machine.specs.Meaning.{state}
-use Rattle.machine.proofs.Served.{log_lanes, own_read_served, own_read_value, own_write_served, own_write_stored}
+use Rattle.machine.proofs.Served.{log_warp_rows, own_read_served, own_read_value, own_write_served, own_write_stored}
 use Rattle.machine.proofs.state.Machine.serve_own.Goals as goal
 
 pub returns-in-Read : goal.returns-in-Read
@@ -19,11 +19,11 @@ returns-in-Write g c =
     let w = c.args.request.warp in
     let line = c.args.request.line in
     record {
-      after = own_write_served m w line (g.B.Book.model c.add.new.self) (lanes c.log_store.new.self) _
+      after = own_write_served m w line (g.B.Book.model c.add.new.self) (warp_rows c.log_store.new.self) _
           c.in-Write.value c.args.request.access c.in-Write.is
           c.add.ensures.after
-          (log_lanes m w line m.lanes (lanes c.log_store.new.self) c.of.result c.in-Write.value
-          c.of.ensures c.log_store.ensures.lanes)
+          (log_warp_rows m w line m.warp_rows (warp_rows c.log_store.new.self) c.of.result c.in-Write.value
+          c.of.ensures c.log_store.ensures.warp_rows)
           c.log_store.ensures.queue;
       answer = own_write_stored m w line c.in-Write.value c.args.request.access c.in-Write.is;
     }

@@ -1,21 +1,21 @@
 -- By the access, and then it comes out.
 use Rattle.std.proofs.Common.{ap}
 use Rattle.rules.specs.State.{Machine}
-use Rattle.tables.specs.Pages.{lanes, queued}
+use Rattle.tables.specs.Pages.{warp_rows, queued}
 use Rattle.machine.specs.Meaning.{state}
-use Rattle.machine.proofs.Served.{log_lanes, read_through, write_through, settled_free, room_stays}
+use Rattle.machine.proofs.Served.{log_warp_rows, read_through, write_through, settled_free, room_stays}
 use Rattle.machine.proofs.state.Machine.serve_waiting.Goals as goal
 
 pub log_store-requires : goal.log_store-requires
 log_store-requires g c =
     let m = state g.M.Memory.at g.B.Book.kind g.B.Book.model c.args.self.now in
     let w = c.args.request.warp in
-    let before = lanes c.reserve.new.self.tables in
-    let after = lanes c.settle-in-Write.new.self in
+    let before = warp_rows c.reserve.new.self.tables in
+    let after = warp_rows c.settle-in-Write.new.self in
     record {
-      free = settled_free m w c.args.request.line before after _ c.settle-in-Write.ensures.lanes;
-      room = room_stays m w c.args.request.line before after _ c.settle-in-Write.ensures.lanes
-          (ap (λ (x : Machine _). x.lanes) c.reserve.ensures) c.args.request.access c.in-Write.value
+      free = settled_free m w c.args.request.line before after _ c.settle-in-Write.ensures.warp_rows;
+      room = room_stays m w c.args.request.line before after _ c.settle-in-Write.ensures.warp_rows
+          (ap (λ (x : Machine _). x.warp_rows) c.reserve.ensures) c.args.request.access c.in-Write.value
           c.in-Write.is c.requires.room;
     }
 
@@ -23,9 +23,9 @@ pub returns-in-Read : goal.returns-in-Read
 returns-in-Read g c =
     let m = state g.M.Memory.at g.B.Book.kind g.B.Book.model c.args.self.now in
     let mid = state g.M.Memory.at g.B.Book.kind g.B.Book.model c.note.new.self in
-    read_through m c.args.request.warp c.args.request.line mid (lanes c.settle.new.self) _
+    read_through m c.args.request.warp c.args.request.line mid (warp_rows c.settle.new.self) _
     c.memory_value-value.result c.args.request.access c.in-Read.is
-    c.note.ensures c.memory_value-value.ensures c.settle.ensures.lanes c.settle.ensures.queue
+    c.note.ensures c.memory_value-value.ensures c.settle.ensures.warp_rows c.settle.ensures.queue
 
 pub returns-in-Write : goal.returns-in-Write
 returns-in-Write g c =
@@ -33,10 +33,10 @@ returns-in-Write g c =
     let mid = state g.M.Memory.at g.B.Book.kind g.B.Book.model c.reserve.new.self in
     let w = c.args.request.warp in
     let line = c.args.request.line in
-    let settled = lanes c.settle-in-Write.new.self in
-    write_through m w line mid settled (lanes c.log_store.new.self) (queued c.settle-in-Write.new.self) _
+    let settled = warp_rows c.settle-in-Write.new.self in
+    write_through m w line mid settled (warp_rows c.log_store.new.self) (queued c.settle-in-Write.new.self) _
     c.in-Write.value c.args.request.access c.in-Write.is c.reserve.ensures
-    c.settle-in-Write.ensures.lanes c.settle-in-Write.ensures.queue
-    (log_lanes m w line settled (lanes c.log_store.new.self) c.of.result c.in-Write.value
-    c.of.ensures c.log_store.ensures.lanes)
+    c.settle-in-Write.ensures.warp_rows c.settle-in-Write.ensures.queue
+    (log_warp_rows m w line settled (warp_rows c.log_store.new.self) c.of.result c.in-Write.value
+    c.of.ensures c.log_store.ensures.warp_rows)
     c.log_store.ensures.queue

@@ -1,8 +1,8 @@
 -- The row of a warp without a request may change.
 use Rattle.std.proofs.Common.{◌<◌, length, ap, ◌∙◌, rules}
-use Rattle.rules.specs.State.{Lane, in_phase}
+use Rattle.rules.specs.State.{WarpRow, in_phase}
 use Rattle.tables.proofs.Fitting.{row_set}
-use Rattle.tables.proofs.Lanes.{lane_here, lanes_set}
+use Rattle.tables.proofs.WarpRows.{warp_row_here, warp_rows_set}
 use Rattle.tables.proofs.state.Tables.enter.Goals as goal
 
 pub invariant_of-self : goal.invariant_of-self
@@ -10,9 +10,9 @@ invariant_of-self c =
     let set = row_set c.args.self.now c.args.warp c.enter.new.self c.requires in
     record { count = set.0; sound = set.1 }
 
-pub returns-in-Some-clause-lanes : goal.returns-in-Some-clause-lanes
-returns-in-Some-clause-lanes c =
+pub returns-in-Some-clause-warp_rows : goal.returns-in-Some-clause-warp_rows
+returns-in-Some-clause-warp_rows c =
     let rows = c.args.self.now.rows.items in
     let low : c.args.warp < length rows = search rules in
-    let here = lane_here rows c.args.warp c.in-Some.row.now low c.in-Some.ensures.value in
-    lanes_set rows c.args.warp c.enter.new.self _ (c.enter.ensures ∙ ap (λ (l : Lane). in_phase l c.args.phase) here)
+    let here = warp_row_here rows c.args.warp c.in-Some.row.now low c.in-Some.ensures.value in
+    warp_rows_set rows c.args.warp c.enter.new.self _ (c.enter.ensures ∙ ap (λ (l : WarpRow). in_phase l c.args.phase) here)

@@ -1,8 +1,8 @@
 -- The row of a warp that does not wait may change: it has no request.
 use Rattle.std.proofs.Common.{◌<◌, length, ap, ◌∙◌, rules}
-use Rattle.rules.specs.State.{Lane, logging}
+use Rattle.rules.specs.State.{WarpRow, logging}
 use Rattle.tables.proofs.Fitting.{free, row_set}
-use Rattle.tables.proofs.Lanes.{lane_here, lanes_set}
+use Rattle.tables.proofs.WarpRows.{warp_row_here, warp_rows_set}
 use Rattle.tables.proofs.state.Tables.log_store.Goals as goal
 
 pub invariant_of-self : goal.invariant_of-self
@@ -11,10 +11,10 @@ invariant_of-self c =
     let set = row_set t c.args.warp c.log_store.new.self (free t c.args.warp c.requires.free) in
     record { count = set.0; sound = set.1 }
 
-pub returns-in-Some-clause-lanes : goal.returns-in-Some-clause-lanes
-returns-in-Some-clause-lanes c =
+pub returns-in-Some-clause-warp_rows : goal.returns-in-Some-clause-warp_rows
+returns-in-Some-clause-warp_rows c =
     let rows = c.args.self.now.rows.items in
     let low : c.args.warp < length rows = search rules in
-    let here = lane_here rows c.args.warp c.in-Some.row.now low c.in-Some.ensures.value in
-    lanes_set rows c.args.warp c.log_store.new.self _
-    (c.log_store.ensures ∙ ap (λ (l : Lane). logging l c.args.store.line c.args.store.value) here)
+    let here = warp_row_here rows c.args.warp c.in-Some.row.now low c.in-Some.ensures.value in
+    warp_rows_set rows c.args.warp c.log_store.new.self _
+    (c.log_store.ensures ∙ ap (λ (l : WarpRow). logging l c.args.store.line c.args.store.value) here)

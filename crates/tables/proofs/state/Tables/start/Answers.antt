@@ -1,6 +1,6 @@
 -- The row of a warp that does not wait may change: it has no request.
 use Rattle.tables.proofs.Fitting.{free, row_set}
-use Rattle.tables.proofs.Lanes.{lanes_set}
+use Rattle.tables.proofs.WarpRows.{warp_rows_set}
 use Rattle.tables.proofs.state.Tables.start.Goals as goal
 
 pub invariant_of-self : goal.invariant_of-self
@@ -9,6 +9,6 @@ invariant_of-self c =
     let set = row_set t c.args.warp c.start.new.self (free t c.args.warp c.requires) in
     record { count = set.0; sound = set.1 }
 
-pub returns-in-Some-clause-lanes : goal.returns-in-Some-clause-lanes
-returns-in-Some-clause-lanes c =
-    lanes_set c.args.self.now.rows.items c.args.warp c.start.new.self _ c.start.ensures
+pub returns-in-Some-clause-warp_rows : goal.returns-in-Some-clause-warp_rows
+returns-in-Some-clause-warp_rows c =
+    warp_rows_set c.args.self.now.rows.items c.args.warp c.start.new.self _ c.start.ensures

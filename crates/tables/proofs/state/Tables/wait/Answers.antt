@@ -3,7 +3,7 @@ use Rattle.std.proofs.Common.{◌≡◌, length, sym, refl, ap, ◌∙◌, subst
 use Rattle.std.proofs.lemmas.List.{get_or-set_same}
 use Rattle.rules.specs.State.{idle_at, in_phase}
 use Rattle.rules.specs.declared.state.Phase.TheVariants.{Waiting}
-use Rattle.tables.specs.Pages.{lanes, lane, lane_at}
+use Rattle.tables.specs.Pages.{warp_rows, warp_row, warp_row_at}
 use Rattle.tables.specs.Sound.{Sound}
 use Rattle.tables.proofs.Fitting.{asks, free, room_for, room_in_phase, request_may_come}
 use Rattle.tables.proofs.state.Tables.wait.Goals as goal
@@ -23,12 +23,12 @@ invariant_of-self c =
     let t = c.enter.new.self in
     let r = c.args.request in
     let none = ap (λ q. asks q r.warp) c.enter.ensures.queue ∙ free old r.warp c.requires.free in
-    let here : lane t r.warp ≡ in_phase (lane old r.warp) Waiting =
-    ap (λ ls. lane_at ls r.warp) c.enter.ensures.lanes
-    ∙ get_or-set_same (lanes old) r.warp _ (idle_at 0) c.requires.inside in
-    let roomy = room_in_phase (lane old r.warp) Waiting r.access ∙ c.requires.room in
+    let here : warp_row t r.warp ≡ in_phase (warp_row old r.warp) Waiting =
+    ap (λ ls. warp_row_at ls r.warp) c.enter.ensures.warp_rows
+    ∙ get_or-set_same (warp_rows old) r.warp _ (idle_at 0) c.requires.inside in
+    let roomy = room_in_phase (warp_row old r.warp) Waiting r.access ∙ c.requires.room in
     record {
       count = t.count;
       sound = subst (Sound t.rows.items) (sym c.push.ensures)
-          (request_may_come t r (in_phase (lane old r.warp) Waiting) none here refl roomy);
+          (request_may_come t r (in_phase (warp_row old r.warp) Waiting) none here refl roomy);
     }

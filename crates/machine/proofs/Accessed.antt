@@ -1,6 +1,7 @@
 -- Loads, stores and fetches by what they meet.
 use Rattle.std.proofs.Common.{◌≡◌, ℕ, Bool, true, false, cond, ltb, List, set, Some, None, Option, sym, refl, ap, ◌∙◌, subst}
 use Rattle.protocol.specs.Answers.{answer_of}
+use Rattle.protocol.specs.Limits.{line_room, queue_room}
 use Rattle.protocol.specs.declared.answer.Answer.{Answer}
 use Rattle.protocol.specs.declared.answer.Answer.TheVariants.{Wait, Gone}
 use Rattle.protocol.specs.declared.answer.Cause.{Cause}
@@ -84,10 +85,10 @@ module _ {k : Kind} (m : Machine k) (w : ℕ) where
         (after : Machine k) (answer : Answer) (v : Verdict) (wanted : Access) (facts : Told) (time : Time) (full : Bool)
         → wanted ≡ access → facts ≡ told k m.book line → time ≡ time_of m w → full ≡ false
         → v ≡ decide wanted facts time full
-        → By after answer (if_full (is_full 4 4 m.queue line) (warp_row_of m w).stamp v) → Done after answer
+        → By after answer (if_full (is_full line_room queue_room m.queue line) (warp_row_of m w).stamp v) → Done after answer
     by_verdict after answer v wanted facts time none a f t n e by =
         let here = told k m.book line in
-        let full = is_full 4 4 m.queue line in
+        let full = is_full line_room queue_room m.queue line in
         let is : v ≡ decide access here (time_of m w) false =
         e ∙ ap (λ x. decide x facts time none) a ∙ ap (decide access facts time) n
         ∙ ap (λ x. decide access x time false) f ∙ ap (λ x. decide access here x false) t in
@@ -100,7 +101,7 @@ module _ {k : Kind} (m : Machine k) (w : ℕ) where
         Leaves after answer (in_queue m w line access).machine (in_queue m w line access).answer
 
     pub by_room :
-        (after : Machine k) (answer : Answer) (full : Bool) → is_full 4 4 m.queue line ≡ full
+        (after : Machine k) (answer : Answer) (full : Bool) → is_full line_room queue_room m.queue line ≡ full
         → By after answer (if_room full (warp_row_of m w).stamp) → Queues after answer
     by_room after answer full is by = subst (λ b. By after answer (if_room b (warp_row_of m w).stamp)) (sym is) by
 

@@ -12,7 +12,7 @@ use Rattle.rules.specs.declared.state.Phase.TheVariants.{Waiting, Settled}
 use Rattle.rules.specs.declared.state.Request.{Request}
 use Rattle.memory.specs.Lines.{put}
 use Rattle.book.specs.Meaning.{Kind, released, taken}
-use Rattle.protocol.specs.Limits.{log_limit, last_stamp}
+use Rattle.protocol.specs.Limits.{line_room, queue_room, log_limit, last_stamp}
 use Rattle.protocol.specs.declared.fault.Refusal.TheVariants.{LogFull, ClockSpent}
 use Rattle.rules.specs.Lists.{last_stored}
 use Rattle.rules.specs.State.{WarpRow, Machine, with_lines, with_book, with_warp_row, with_queue, in_phase, time_of, warp_row_of}
@@ -70,7 +70,7 @@ module _ {k : Kind} where
   -- A request that would wait.
   abbrev pub in_queue : Machine k → ℕ → ℕ → Access → Step k
   in_queue m w line access =
-      accessed (product k) m w line access (if_room (is_full 4 4 m.queue line) (warp_row_of m w).stamp)
+      accessed (product k) m w line access (if_room (is_full line_room queue_room m.queue line) (warp_row_of m w).stamp)
 
   -- A request joins the queue, behind all others; its warp waits.
   abbrev pub joining : Machine k → Request → Machine k

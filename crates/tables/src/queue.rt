@@ -1,10 +1,12 @@
 //! The requests that wait: who waits for what, and whether there is room for one more.
 ghost use Rattle.std.specs.Prelude.{◌≡◌, ◌<◌, [], ◌∷◌, ◌++◌, length};
+ghost use Rattle.protocol.specs.Limits.{line_room, queue_room};
 ghost use Rattle.rules.specs.Lists.{push_new, distinct};
 ghost use Rattle.rules.specs.Queue.{request_of, without, requests_on, is_full};
 ghost use Rattle.tables.specs.Lists.{places, place_at, lines_waited};
 
 use arrayvec::ArrayVec;
+use protocol::limits::{LINE_ROOM, QUEUE_ROOM};
 use rules::state::Request;
 
 /// At most 32 requests, in the order in which they came.
@@ -97,9 +99,9 @@ impl Queue {
     /// Whether there is no room for one more request for a line: the line has all that it may have, or it has none
     /// while as many lines as may wait at once have some.
     pub fn is_full(&self, line: u32) -> bool
-        ensures { result ≡ is_full 4 4 (places self.now) line }
+        ensures { result ≡ is_full line_room queue_room (places self.now) line }
     {
         let here = self.count_on(line);
-        here >= 4 || (here == 0 && self.count_lines() >= 4)
+        here >= LINE_ROOM || (here == 0 && self.count_lines() >= QUEUE_ROOM)
     }
 }

@@ -1,6 +1,6 @@
 //! What the warps are doing, and what changes it.
 ghost use Rattle.std.specs.Prelude.{◌≡◌, ◌<◌, true, false, [], ◌∷◌, ◌++◌, length, is_some, nat_lt, slice_set, MatchOption};
-ghost use Rattle.protocol.specs.Limits.{log_limit};
+ghost use Rattle.protocol.specs.Limits.{line_room, queue_room, log_limit};
 ghost use Rattle.rules.specs.Ending.{logged_lines};
 ghost use Rattle.rules.specs.Queue.{request_of, requests_on, without, is_full};
 ghost use Rattle.rules.specs.State.{idle_at, in_phase, logging, is_waiting};
@@ -146,7 +146,7 @@ impl Tables {
 
     /// Whether the queue has no room for one more request for a line.
     pub fn is_full(&self, line: u32) -> bool
-        ensures { result ≡ is_full 4 4 (queued self.now) line }
+        ensures { result ≡ is_full line_room queue_room (queued self.now) line }
     {
         self.queue.is_full(line)
     }

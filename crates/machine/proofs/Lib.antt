@@ -4,5 +4,4 @@ mod Ended
 mod Accessed
 mod Granted
 mod Stamps
-mod Covering
 mod Runs

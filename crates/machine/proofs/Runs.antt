@@ -7,12 +7,12 @@ use Rattle.protocol.specs.declared.call.Call.{Call}
 use Rattle.memory.specs.Lines.{Lines}
 use Rattle.book.specs.Meaning.{Kind, Keeps}
 use Rattle.rules.proofs.AccountsLaw.{law_of_accounts}
+use Rattle.rules.proofs.ProductOrder.{product_covers}
 use Rattle.rules.proofs.WaitsLaw.{law_of_waits}
 use Rattle.rules.specs.Queue.{product}
 use Rattle.rules.specs.State.{Machine}
 use Rattle.rules.specs.Runs.{Event, Run, goes_on, event_of, run}
 use Rattle.rules.specs.Steps.{step}
-use Rattle.machine.proofs.Covering.{product_covers}
 use Rattle.machine.specs.Running.{run_of, answers_in, Follows, AccountsOf, WaitsOf}
 
 module _ {k : Kind} (start : Machine k) (calls : List Call) where

@@ -7,14 +7,14 @@ use Rattle.protocol.specs.declared.answer.Outcome.TheVariants.{Value, Stored}
 use Rattle.memory.specs.Lines.{Lines}
 use Rattle.book.specs.Meaning.{Kind, added}
 use Rattle.rules.specs.Queue.{without}
-use Rattle.rules.specs.State.{WarpRow, Machine, idle_at, in_phase, logging, is_waiting, with_book, warp_row_of}
+use Rattle.rules.specs.State.{WarpRow, Machine, idle_at, in_phase, logging, is_waiting, with_book, warp_row_at, warp_row_of}
 use Rattle.rules.specs.Serving.{memory_value, reads, serves, serves_own}
 use Rattle.rules.specs.Ending.{settles}
 use Rattle.rules.specs.declared.state.Access.{Access}
 use Rattle.rules.specs.declared.state.Access.TheVariants.{Read, Write}
 use Rattle.rules.specs.declared.state.Phase.TheVariants.{Settled}
 use Rattle.rules.specs.declared.state.Request.{Request}
-use Rattle.tables.specs.Pages.{warp_row_at, has_room}
+use Rattle.tables.specs.Pages.{has_room}
 use Rattle.tables.specs.Rows.{pair_of}
 use Rattle.tables.specs.declared.row.Store.{Store}
 use Rattle.machine.specs.Moves.{own_value, reserving, comes_through}

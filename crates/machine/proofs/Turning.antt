@@ -1,5 +1,5 @@
 -- Tries, turns and the end of a transaction, by the machine alone: what has come out does not matter.
-use Rattle.std.proofs.Common.{◌≡◌, ℕ, Bool, false, cond, ltb, List, [], ◌∷◌, map, length, Some, None, fold, Option, sym, refl, ap, ◌∙◌, arith}
+use Rattle.std.proofs.Common.{◌≡◌, ℕ, Bool, false, ltb, List, [], ◌∷◌, map, length, Some, None, fold, Option, sym, refl, ap, ◌∙◌, arith}
 use Rattle.std.proofs.lemmas.List.{nil_from_length}
 use Rattle.std.proofs.lemmas.Bool.{ltb-false}
 use Rattle.protocol.specs.declared.answer.Cause.{Cause}
@@ -13,7 +13,6 @@ use Rattle.rules.specs.Ending.{Woken, tried, retries, tries, wakes, settles, let
 use Rattle.rules.specs.State.{warp_row_of}
 use Rattle.rules.specs.declared.state.Access.{Access}
 use Rattle.rules.specs.declared.state.Request.{Request}
-use Rattle.tables.specs.Pages.{put_in, turns_at}
 use Rattle.machine.specs.Moves.{none_yet, coming_out, try_at, wake_at, comes_through}
 
 module _ {k : Kind} where
@@ -68,27 +67,12 @@ module _ {k : Kind} where
   unfolding ends
   ends_is m w stamp = all_wakes (none_yet (lets_go m w stamp)) (logged_lines (warp_row_of m w).log)
 
-  -- The turns of a line are the product's.
-  placed_is : (m : Machine k) (ws : List ℕ) (w : ℕ) → put_in m.warp_rows ws w ≡ placed m ws w
-  placed_is m [] w = refl
-  placed_is m (v ∷ rest) w =
-      ap (cond (ltb (warp_row_of m w).stamp (warp_row_of m v).stamp) (w ∷ v ∷ rest)) (ap (λ ws. v ∷ ws) (placed_is m rest w))
-
-  all_placed :
-      (m : Machine k) (acc ws : List ℕ) → fold (put_in m.warp_rows) acc ws ≡ fold (placed m) acc ws
-  all_placed m acc [] = refl
-  all_placed m acc (w ∷ ws) =
-      all_placed m (put_in m.warp_rows acc w) ws ∙ ap (λ a. fold (placed m) a ws) (placed_is m acc w)
-
-  pub turns_are : (m : Machine k) (line : ℕ) → turns_at m.warp_rows m.queue line ≡ by_stamp m line
-  turns_are m line = all_placed m [] (map (λ (r : Request). r.warp) (requests_on m.queue line))
-
   -- Where nobody waits there are no turns.
   pub nobody_waits : (m : Machine k) (line : ℕ) → ltb 0 (length (requests_on m.queue line)) ≡ false
       → m ≡ wake_at m line
   nobody_waits m line e =
       let none = nil_from_length (requests_on m.queue line) (let z = ltb-false 0 _ e in omega arith) in
-      ap (λ rs. fold (try_at line) m (fold (placed m) [] (map (λ (r : Request). r.warp) rs))) (sym none)
+      ap (λ rs. fold (try_at line) m (fold (placed m.warp_rows) [] (map (λ (r : Request). r.warp) rs))) (sym none)
       ∙ sym (wake_is m line)
 
   -- A try, by what is pending and by its verdict.

@@ -30,7 +30,7 @@ pub record Settling : Type 0 where
   pub access : Access
   pub outcome : Outcome
 
--- A warp without a transaction; also what a warp that the machine lacks is taken for.
+-- A warp without a transaction.
 abbrev pub idle_at : ℕ → WarpRow
 idle_at stamp = record { phase = Idle; stamp = stamp; log = [] }
 
@@ -55,10 +55,14 @@ abbrev pub logging : WarpRow → ℕ → ℕ → WarpRow
 logging warp_row line value =
     record { phase = warp_row.phase; stamp = warp_row.stamp; log = warp_row.log ++ (line, value) ∷ [] }
 
+-- A warp's row, among the rows of all; a warp that the machine lacks is taken for an idle one.
+abbrev pub warp_row_at : List WarpRow → ℕ → WarpRow
+warp_row_at warp_rows w = slice_index_or warp_rows w (idle_at 0)
+
 module _ {k : Kind} where
-  -- The row of a warp.
+  -- The row of a machine's warp.
   abbrev pub warp_row_of : Machine k → ℕ → WarpRow
-  warp_row_of m w = slice_index_or m.warp_rows w (idle_at 0)
+  warp_row_of m w = warp_row_at m.warp_rows w
 
   -- The logical time of a warp's transaction.
   abbrev pub time_of : Machine k → ℕ → Time

@@ -4,13 +4,13 @@ use Rattle.std.proofs.lemmas.List.{get_or-set_other, length-map, length-set}
 use Rattle.std.proofs.lemmas.Bool.Decides.{nat_tests}
 use Rattle.std.proofs.lemmas.Bool.{and_parts, and_from, both_ways, not-true, not_from_false}
 use Rattle.rules.specs.Queue.{request_of, without}
-use Rattle.rules.specs.State.{WarpRow, in_phase, is_waiting}
+use Rattle.rules.specs.State.{WarpRow, warp_row_at, in_phase, is_waiting}
 use Rattle.rules.specs.declared.state.Access.{Access}
 use Rattle.rules.specs.declared.state.Access.TheVariants.{Read, Write}
 use Rattle.rules.specs.declared.state.Phase.{Phase}
 use Rattle.rules.specs.declared.state.Request.{Request}
 use Rattle.tables.proofs.WarpRows.{warp_row_row, log_long}
-use Rattle.tables.specs.Pages.{warp_rows, queued, warp_row, warp_row_at, has_room}
+use Rattle.tables.specs.Pages.{warp_rows, queued, warp_row, has_room}
 use Rattle.tables.specs.Rows.{no_row, warp_row_in}
 use Rattle.tables.specs.Sound.{fits, sound, Sound}
 use Rattle.tables.specs.declared.row.Row.{Row}

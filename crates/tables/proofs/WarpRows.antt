@@ -2,8 +2,7 @@
 use Rattle.std.proofs.Common.{◌≡◌, ℕ, ◌<◌, List, map, length, get_or, set, sym, ap, ◌∙◌, arith}
 use Rattle.std.proofs.Math.ListN.{get_or-map}
 use Rattle.std.proofs.lemmas.List.{get_or_default, map-set, length-map, length-take-le}
-use Rattle.rules.specs.State.{WarpRow}
-use Rattle.tables.specs.Pages.{warp_row_at}
+use Rattle.rules.specs.State.{WarpRow, warp_row_at}
 use Rattle.tables.specs.Rows.{pair_of, warp_row_in, no_row}
 use Rattle.tables.specs.declared.row.Row.{Row}
 

@@ -3,7 +3,7 @@ use Rattle.std.proofs.Common.{fold, sym, ap, ◌∙◌, arith}
 use Rattle.std.proofs.lemmas.List.{take_all}
 use Rattle.machine.specs.Meaning.{state}
 use Rattle.machine.specs.Moves.{try_at}
-use Rattle.machine.proofs.Turning.{wake_is, turns_are, nobody_waits}
+use Rattle.machine.proofs.Turning.{wake_is, nobody_waits}
 use Rattle.machine.proofs.state.Machine.wake.Goals as goal
 
 pub returns-then-not-any_waits : goal.returns-then-not-any_waits
@@ -18,5 +18,5 @@ returns g c =
     let all = take_all l.warp-index c.as_slice-warp-items.result.now (omega arith) in
     l.invariant
     ∙ ap (fold (try_at c.args.line) m)
-    (all ∙ c.as_slice-warp-items.ensures.value ∙ c.turns-turns.ensures ∙ turns_are m c.args.line)
+    (all ∙ c.as_slice-warp-items.ensures.value ∙ c.turns-turns.ensures)
     ∙ sym (wake_is m c.args.line)

@@ -1,9 +1,9 @@
 -- A request may come of a warp that does not wait, if its log has room.
 use Rattle.std.proofs.Common.{◌≡◌, length, sym, refl, ap, ◌∙◌, subst, arith}
 use Rattle.std.proofs.lemmas.List.{get_or-set_same}
-use Rattle.rules.specs.State.{idle_at, in_phase}
+use Rattle.rules.specs.State.{idle_at, warp_row_at, in_phase}
 use Rattle.rules.specs.declared.state.Phase.TheVariants.{Waiting}
-use Rattle.tables.specs.Pages.{warp_rows, warp_row, warp_row_at}
+use Rattle.tables.specs.Pages.{warp_rows, warp_row}
 use Rattle.tables.specs.Sound.{Sound}
 use Rattle.tables.proofs.Fitting.{asks, free, room_for, room_in_phase, request_may_come}
 use Rattle.tables.proofs.state.Tables.wait.Goals as goal

@@ -1,5 +1,5 @@
 -- The causes by their numbers, the answers by their words.
-use Rattle.std.specs.Prelude.{ℕ, List, ◌++◌, codes, decimal}
+use Rattle.std.specs.Prelude.{ℕ, List, [], ◌∷◌, ◌++◌, fold, codes, decimal}
 use Rattle.protocol.specs.Faults.{refusal_number}
 use Rattle.protocol.specs.declared.answer.Cause.{Cause}
 use Rattle.protocol.specs.declared.answer.Cause.TheVariants.{WrittenLater, ReadLater, QueueFull, NoSlot}
@@ -23,13 +23,21 @@ answer_word Wait = codes "wait"
 answer_word (Gone cause next) = codes "gone"
 answer_word (No fault) = codes "no"
 
--- An answer as listings print it: its word, and the numbers that it tells.
+-- The numbers that an answer tells.
+abbrev pub answer_numbers : Answer → List ℕ
+answer_numbers Ok = []
+answer_numbers (Val value) = value ∷ []
+answer_numbers Wait = []
+answer_numbers (Gone cause next) = cause_number cause ∷ next ∷ []
+answer_numbers (No fault) = refusal_number fault.refusal ∷ []
+
+-- A text, and after a blank one number more.
+abbrev pub with_number : List ℕ → ℕ → List ℕ
+with_number text number = text ++ (codes " " ++ decimal number)
+
+-- An answer as listings print it: its word, then its numbers.
 abbrev pub answer_text : Answer → List ℕ
-answer_text Ok = codes "ok"
-answer_text (Val value) = codes "val " ++ decimal value
-answer_text Wait = codes "wait"
-answer_text (Gone cause next) = codes "gone " ++ (decimal (cause_number cause) ++ (codes " " ++ decimal next))
-answer_text (No fault) = codes "no " ++ decimal (refusal_number fault.refusal)
+answer_text answer = fold with_number (answer_word answer) (answer_numbers answer)
 
 -- The answer that tells an outcome.
 abbrev pub answer_of : Outcome → Answer

@@ -75,7 +75,8 @@ module _
           subst
           (λ x. (get_or (set m.warp_rows w (logging (warp_row_of m w) line v)) x (idle_at 0)).phase ≡ (warp_row_of m x).phase)
           (sym e) (ap (λ (warp_row : WarpRow). warp_row.phase) (warp_row_put m w (logging (warp_row_of m w) line v) inside)))
-          (λ n. ap (λ (warp_row : WarpRow). warp_row.phase) (warp_row_kept m w (logging (warp_row_of m w) line v) u n)) (cases_eq u w)
+          (λ n. ap (λ (warp_row : WarpRow). warp_row.phase) (warp_row_kept m w (logging (warp_row_of m w) line v) u n))
+          (cases_eq u w)
 
       logs_stamp :
           (line v u : ℕ)
@@ -86,7 +87,8 @@ module _
           subst
           (λ x. (get_or (set m.warp_rows w (logging (warp_row_of m w) line v)) x (idle_at 0)).stamp ≡ (warp_row_of m x).stamp)
           (sym e) (ap (λ (warp_row : WarpRow). warp_row.stamp) (warp_row_put m w (logging (warp_row_of m w) line v) inside)))
-          (λ n. ap (λ (warp_row : WarpRow). warp_row.stamp) (warp_row_kept m w (logging (warp_row_of m w) line v) u n)) (cases_eq u w)
+          (λ n. ap (λ (warp_row : WarpRow). warp_row.stamp) (warp_row_kept m w (logging (warp_row_of m w) line v) u n))
+          (cases_eq u w)
 
       wrote :
           (value n : ℕ) → writes tx.deeds n ≡ true → (b : Bool)

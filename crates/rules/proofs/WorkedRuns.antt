@@ -8,4 +8,4 @@ use Rattle.rules.specs.Runs.{goes_on}
 
 pub worked_runs_stand : WorkedRunsStand
 unfolding goes_on accessed serves serves_own settles tried retries wakes lets_go ends waits fetched
-worked_runs_stand = (refl, refl)
+worked_runs_stand = refl

@@ -42,7 +42,11 @@ pub record TellsApart (s : Sample) (a b : ℕ) : Type 0 where
 -- Two write one line.
 abbrev pub two_writers : Sample
 two_writers =
-    record { stamps = 0 ∷ 5 ∷ []; values = 7 ∷ []; calls = begin_by 0 ∷ store_by 0 0 8 ∷ commit_by 0 ∷ begin_by 1 ∷ store_by 1 0 9 ∷ commit_by 1 ∷ [] }
+    record {
+      stamps = 0 ∷ 5 ∷ [];
+      values = 7 ∷ [];
+      calls = begin_by 0 ∷ store_by 0 0 8 ∷ commit_by 0 ∷ begin_by 1 ∷ store_by 1 0 9 ∷ commit_by 1 ∷ [];
+    }
 
 abbrev pub TwoWriters : Type 0
 TwoWriters = TellsApart two_writers 0 1
@@ -50,7 +54,11 @@ TwoWriters = TellsApart two_writers 0 1
 -- One writes a line, and one that is later reads it.
 abbrev pub writer_reader : Sample
 writer_reader =
-    record { stamps = 0 ∷ 5 ∷ []; values = 7 ∷ []; calls = begin_by 0 ∷ store_by 0 0 8 ∷ commit_by 0 ∷ begin_by 1 ∷ load_by 1 0 ∷ commit_by 1 ∷ [] }
+    record {
+      stamps = 0 ∷ 5 ∷ [];
+      values = 7 ∷ [];
+      calls = begin_by 0 ∷ store_by 0 0 8 ∷ commit_by 0 ∷ begin_by 1 ∷ load_by 1 0 ∷ commit_by 1 ∷ [];
+    }
 
 abbrev pub WriterThenReader : Type 0
 WriterThenReader = TellsApart writer_reader 0 1
@@ -59,14 +67,23 @@ WriterThenReader = TellsApart writer_reader 0 1
 -- order of logical time does.
 abbrev pub reader_writer : Sample
 reader_writer =
-    record { stamps = 0 ∷ 5 ∷ []; values = 7 ∷ []; calls = begin_by 0 ∷ begin_by 1 ∷ load_by 0 0 ∷ store_by 1 0 8 ∷ commit_by 1 ∷ commit_by 0 ∷ [] }
+    record {
+      stamps = 0 ∷ 5 ∷ [];
+      values = 7 ∷ [];
+      calls = begin_by 0 ∷ begin_by 1 ∷ load_by 0 0 ∷ store_by 1 0 8 ∷ commit_by 1 ∷ commit_by 0 ∷ [];
+    }
 
 abbrev pub ReaderThenWriter : Type 0
 ReaderThenWriter = TellsApart reader_writer 1 0
 
 -- One warp commits two transactions at one stamp: the place of the commit decides.
 abbrev pub same_stamp : Sample
-same_stamp = record { stamps = 5 ∷ []; values = 7 ∷ []; calls = begin_by 0 ∷ load_by 0 0 ∷ commit_by 0 ∷ begin_by 0 ∷ store_by 0 0 9 ∷ commit_by 0 ∷ [] }
+same_stamp =
+    record {
+      stamps = 5 ∷ [];
+      values = 7 ∷ [];
+      calls = begin_by 0 ∷ load_by 0 0 ∷ commit_by 0 ∷ begin_by 0 ∷ store_by 0 0 9 ∷ commit_by 0 ∷ [];
+    }
 
 abbrev pub SameStamp : Type 0
 SameStamp = TellsApart same_stamp 0 1
@@ -74,8 +91,11 @@ SameStamp = TellsApart same_stamp 0 1
 -- A load waits for a commit, and found that very commit.
 abbrev pub settled_load : Sample
 settled_load =
-    record
-    { stamps = 0 ∷ 3 ∷ []; values = 7 ∷ []; calls = begin_by 0 ∷ begin_by 1 ∷ store_by 0 0 8 ∷ load_by 1 0 ∷ commit_by 0 ∷ fetch_by 1 ∷ commit_by 1 ∷ [] }
+    record {
+      stamps = 0 ∷ 3 ∷ [];
+      values = 7 ∷ [];
+      calls = begin_by 0 ∷ begin_by 1 ∷ store_by 0 0 8 ∷ load_by 1 0 ∷ commit_by 0 ∷ fetch_by 1 ∷ commit_by 1 ∷ [];
+    }
 
 abbrev pub SettledLoadFound : Type 0
 SettledLoadFound =
@@ -90,7 +110,9 @@ chain =
       stamps = 0 ∷ 3 ∷ 6 ∷ 9 ∷ [];
       values = 7 ∷ 7 ∷ 7 ∷ [];
       calls =
-          begin_by 0 ∷ begin_by 1 ∷ begin_by 2 ∷ begin_by 3 ∷ store_by 0 0 1 ∷ store_by 1 1 1 ∷ store_by 2 2 1 ∷ load_by 1 0 ∷ load_by 2 1 ∷ load_by 3 2 ∷ [];
+          begin_by 0 ∷ begin_by 1 ∷ begin_by 2 ∷ begin_by 3
+          ∷ store_by 0 0 1 ∷ store_by 1 1 1 ∷ store_by 2 2 1
+          ∷ load_by 1 0 ∷ load_by 2 1 ∷ load_by 3 2 ∷ [];
     }
 
 abbrev pub ChainOfThree : Type 0

@@ -76,7 +76,8 @@ module _ {k : Kind} where
   with_book m book = record { lines = m.lines; book = book; warp_rows = m.warp_rows; queue = m.queue }
 
   abbrev pub with_warp_row : Machine k → ℕ → WarpRow → Machine k
-  with_warp_row m w warp_row = record { lines = m.lines; book = m.book; warp_rows = slice_set m.warp_rows w warp_row; queue = m.queue }
+  with_warp_row m w warp_row =
+      record { lines = m.lines; book = m.book; warp_rows = slice_set m.warp_rows w warp_row; queue = m.queue }
 
   abbrev pub with_queue : Machine k → List Request → Machine k
   with_queue m queue = record { lines = m.lines; book = m.book; warp_rows = m.warp_rows; queue = queue }

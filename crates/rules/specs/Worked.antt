@@ -1,15 +1,16 @@
--- The worked runs over the exact book, in one table: first stamps, first line values, calls, and every answer.
-use Rattle.std.specs.Prelude.{◌≡◌, ℕ, List, [], ◌∷◌, map, Option}
+-- The worked runs over the exact book: each call with its answer, and what the lines hold in the end.
+use Rattle.std.specs.Prelude.{◌≡◌, ℕ, List, [], ◌∷◌, ◌++◌, map, length, Some, Option}
 use Rattle.protocol.specs.Faults.{fault_in_call}
 use Rattle.protocol.specs.Limits.{last_stamp}
 use Rattle.protocol.specs.declared.answer.Answer.{Answer}
 use Rattle.protocol.specs.declared.answer.Answer.TheVariants.{Ok, Val, Wait, Gone, No}
 use Rattle.protocol.specs.declared.answer.Cause.TheVariants.{WrittenLater, ReadLater, QueueFull}
 use Rattle.protocol.specs.declared.call.Call.{Call}
-use Rattle.protocol.specs.declared.call.Op.TheVariants.{Begin, Load, Store, Commit, Drop, Fetch}
+use Rattle.protocol.specs.declared.call.Op.TheVariants.{Begin, Load, Store, Commit, Fetch}
 use Rattle.protocol.specs.declared.fault.Refusal.TheVariants.{WarpIdle, ClockSpent}
 use Rattle.memory.specs.Lines.{word_lines}
 use Rattle.book.specs.Exact.{exact, exact_new}
+use Rattle.rules.specs.Lists.{upto}
 use Rattle.rules.specs.Queue.{product}
 use Rattle.rules.specs.Making.{make}
 use Rattle.rules.specs.Runs.{Event, Run, run}
@@ -27,9 +28,6 @@ store_by w line value = record { warp = w; op = Store line value }
 abbrev pub commit_by : ℕ → Call
 commit_by w = record { warp = w; op = Commit }
 
-abbrev pub drop_by : ℕ → Call
-drop_by w = record { warp = w; op = Drop }
-
 abbrev pub fetch_by : ℕ → Call
 fetch_by w = record { warp = w; op = Fetch }
 
@@ -37,99 +35,183 @@ fetch_by w = record { warp = w; op = Fetch }
 abbrev pub exact_run : List ℕ → List ℕ → List Call → Run exact
 exact_run stamps values calls = run (product exact) (make exact (word_lines values) exact_new stamps) calls
 
--- A worked run: its shape, its calls, and what it answers and leaves in memory.
-pub record Case : Type 0 where
+-- A worked run: first stamps and line values, each call with its answer, and the line values at the end.
+pub record WorkedRun : Type 0 where
   pub stamps : List ℕ
-  pub values : List ℕ
-  pub calls : List Call
-  pub answers : List Answer
-  pub last : List (ℕ × ℕ)
+  pub first_values : List ℕ
+  pub rows : List (Call × Answer)
+  pub last_values : List ℕ
 
--- What a case's calls are answered.
-abbrev pub turned : Case → List Answer
-turned c = map (λ (e : Event). e.answer) (exact_run c.stamps c.values c.calls).events
-
--- The table.
-abbrev pub worked_runs : List Case
-worked_runs =
-    -- a load meets a line that is written later, and reads the commit after its next begin
+-- A load meets a line that is written later, and reads what was committed after its warp's next begin.
+abbrev pub reads_after_commit : WorkedRun
+reads_after_commit =
     record {
       stamps = 0 ∷ 0 ∷ [];
-      values = 7 ∷ [];
-      calls = begin_by 0 ∷ begin_by 1 ∷ store_by 0 0 9 ∷ load_by 1 0 ∷ commit_by 0 ∷ begin_by 1 ∷ load_by 1 0 ∷ load_by 0 0 ∷ [];
-      answers =
-          Ok ∷ Ok ∷ Ok ∷ Gone WrittenLater 2 ∷ Ok ∷ Ok ∷ Val 9 ∷ No (fault_in_call WarpIdle 0) ∷ [];
-      last = (0, 9) ∷ [];
-    }
-    -- an older warp reads past a newer write, and is gone
-    ∷ record {
-      stamps = 20 ∷ 10 ∷ [];
-      values = 100 ∷ 50 ∷ [];
-      calls = begin_by 0 ∷ begin_by 1 ∷ load_by 0 0 ∷ store_by 0 0 90 ∷ load_by 1 1 ∷ store_by 1 1 40 ∷ load_by 1 0 ∷ [];
-      answers = Ok ∷ Ok ∷ Val 100 ∷ Ok ∷ Val 50 ∷ Ok ∷ Gone WrittenLater 22 ∷ [];
-      last = (0, 100) ∷ (1, 50) ∷ [];
-    }
-    -- it goes on: the other transfers, and the retried load waits for its commit
-    ∷ record {
-      stamps = 20 ∷ 10 ∷ [];
-      values = 100 ∷ 50 ∷ [];
-      calls =
-          begin_by 0 ∷ begin_by 1 ∷ load_by 0 0 ∷ store_by 0 0 90 ∷ load_by 1 1 ∷ store_by 1 1 40 ∷ load_by 1 0 ∷ load_by 0 1 ∷ store_by 0 1 60 ∷ begin_by 1 ∷ load_by 1 1 ∷ commit_by 0 ∷ fetch_by 1
+      first_values = 7 ∷ [];
+      rows =
+          (begin_by 0, Ok)
+          ∷ (begin_by 1, Ok)
+          ∷ (store_by 0 0 9, Ok)
+          ∷ (load_by 1 0, Gone WrittenLater 2)
+          ∷ (commit_by 0, Ok)
+          ∷ (begin_by 1, Ok)
+          ∷ (load_by 1 0, Val 9)
+          ∷ (load_by 0 0, No (fault_in_call WarpIdle 0))
           ∷ [];
-      answers =
-          Ok ∷ Ok ∷ Val 100 ∷ Ok ∷ Val 50 ∷ Ok ∷ Gone WrittenLater 22 ∷ Val 50 ∷ Ok ∷ Ok ∷ Wait ∷ Ok ∷ Val 60 ∷ [];
-      last = (0, 90) ∷ (1, 60) ∷ [];
+      last_values = 9 ∷ [];
     }
-    -- a warp meets its own last commit
-    ∷ record {
+
+-- An older warp reads past a newer write, and is gone.
+abbrev pub older_reader : WorkedRun
+older_reader =
+    record {
+      stamps = 20 ∷ 10 ∷ [];
+      first_values = 100 ∷ 50 ∷ [];
+      rows =
+          (begin_by 0, Ok)
+          ∷ (begin_by 1, Ok)
+          ∷ (load_by 0 0, Val 100)
+          ∷ (store_by 0 0 90, Ok)
+          ∷ (load_by 1 1, Val 50)
+          ∷ (store_by 1 1 40, Ok)
+          ∷ (load_by 1 0, Gone WrittenLater 22)
+          ∷ [];
+      last_values = 100 ∷ 50 ∷ [];
+    }
+
+-- It goes on: the other transfers, and the retried load waits for its commit.
+abbrev pub waits_for_commit : WorkedRun
+waits_for_commit =
+    record {
+      stamps = 20 ∷ 10 ∷ [];
+      first_values = 100 ∷ 50 ∷ [];
+      rows =
+          older_reader.rows
+          ++ ((load_by 0 1, Val 50)
+          ∷ (store_by 0 1 60, Ok)
+          ∷ (begin_by 1, Ok)
+          ∷ (load_by 1 1, Wait)
+          ∷ (commit_by 0, Ok)
+          ∷ (fetch_by 1, Val 60)
+          ∷ []);
+      last_values = 90 ∷ 60 ∷ [];
+    }
+
+-- A warp meets its own last commit.
+abbrev pub own_last_commit : WorkedRun
+own_last_commit =
+    record {
       stamps = 5 ∷ [];
-      values = 7 ∷ [];
-      calls = begin_by 0 ∷ store_by 0 0 8 ∷ commit_by 0 ∷ begin_by 0 ∷ load_by 0 0 ∷ [];
-      answers = Ok ∷ Ok ∷ Ok ∷ Ok ∷ Gone WrittenLater 7 ∷ [];
-      last = (0, 8) ∷ [];
+      first_values = 7 ∷ [];
+      rows =
+          (begin_by 0, Ok)
+          ∷ (store_by 0 0 8, Ok)
+          ∷ (commit_by 0, Ok)
+          ∷ (begin_by 0, Ok)
+          ∷ (load_by 0 0, Gone WrittenLater 7)
+          ∷ [];
+      last_values = 8 ∷ [];
     }
-    -- two warps at one stamp: the read mark's warp number decides
-    ∷ record {
+
+-- Two warps at one stamp: the read mark's warp number decides.
+abbrev pub two_at_one_stamp : WorkedRun
+two_at_one_stamp =
+    record {
       stamps = 0 ∷ 0 ∷ [];
-      values = 1 ∷ 2 ∷ [];
-      calls = begin_by 0 ∷ begin_by 1 ∷ load_by 0 0 ∷ load_by 1 1 ∷ store_by 0 1 3 ∷ store_by 1 0 4 ∷ [];
-      answers = Ok ∷ Ok ∷ Val 1 ∷ Val 2 ∷ Gone ReadLater 1 ∷ Ok ∷ [];
-      last = (0, 1) ∷ (1, 2) ∷ [];
+      first_values = 1 ∷ 2 ∷ [];
+      rows =
+          (begin_by 0, Ok)
+          ∷ (begin_by 1, Ok)
+          ∷ (load_by 0 0, Val 1)
+          ∷ (load_by 1 1, Val 2)
+          ∷ (store_by 0 1 3, Gone ReadLater 1)
+          ∷ (store_by 1 0 4, Ok)
+          ∷ [];
+      last_values = 1 ∷ 2 ∷ [];
     }
-    -- four requests fill a line's queue
-    ∷ record {
+
+-- Four requests fill a line's queue.
+abbrev pub line_is_full : WorkedRun
+line_is_full =
+    record {
       stamps = 0 ∷ 1 ∷ 1 ∷ 1 ∷ 1 ∷ 1 ∷ [];
-      values = 7 ∷ [];
-      calls =
-          begin_by 0 ∷ begin_by 1 ∷ begin_by 2 ∷ begin_by 3 ∷ begin_by 4 ∷ begin_by 5 ∷ store_by 0 0 8 ∷ load_by 1 0 ∷ load_by 2 0 ∷ load_by 3 0 ∷ load_by 4 0 ∷ load_by 5 0 ∷ [];
-      answers = Ok ∷ Ok ∷ Ok ∷ Ok ∷ Ok ∷ Ok ∷ Ok ∷ Wait ∷ Wait ∷ Wait ∷ Wait ∷ Gone QueueFull 1 ∷ [];
-      last = (0, 7) ∷ [];
+      first_values = 7 ∷ [];
+      rows =
+          (begin_by 0, Ok)
+          ∷ (begin_by 1, Ok)
+          ∷ (begin_by 2, Ok)
+          ∷ (begin_by 3, Ok)
+          ∷ (begin_by 4, Ok)
+          ∷ (begin_by 5, Ok)
+          ∷ (store_by 0 0 8, Ok)
+          ∷ (load_by 1 0, Wait)
+          ∷ (load_by 2 0, Wait)
+          ∷ (load_by 3 0, Wait)
+          ∷ (load_by 4 0, Wait)
+          ∷ (load_by 5 0, Gone QueueFull 1)
+          ∷ [];
+      last_values = 7 ∷ [];
     }
-    -- of equal stamps the first to arrive is tried first
-    ∷ record {
+
+-- Of equal stamps the first to arrive is tried first.
+abbrev pub first_to_arrive : WorkedRun
+first_to_arrive =
+    record {
       stamps = 0 ∷ 3 ∷ 3 ∷ [];
-      values = 7 ∷ [];
-      calls = begin_by 0 ∷ begin_by 1 ∷ begin_by 2 ∷ store_by 0 0 8 ∷ store_by 2 0 9 ∷ load_by 1 0 ∷ commit_by 0 ∷ fetch_by 2 ∷ fetch_by 1 ∷ [];
-      answers = Ok ∷ Ok ∷ Ok ∷ Ok ∷ Wait ∷ Wait ∷ Ok ∷ Ok ∷ Gone WrittenLater 5 ∷ [];
-      last = (0, 8) ∷ [];
+      first_values = 7 ∷ [];
+      rows =
+          (begin_by 0, Ok)
+          ∷ (begin_by 1, Ok)
+          ∷ (begin_by 2, Ok)
+          ∷ (store_by 0 0 8, Ok)
+          ∷ (store_by 2 0 9, Wait)
+          ∷ (load_by 1 0, Wait)
+          ∷ (commit_by 0, Ok)
+          ∷ (fetch_by 2, Ok)
+          ∷ (fetch_by 1, Gone WrittenLater 5)
+          ∷ [];
+      last_values = 8 ∷ [];
     }
-    -- the end of the clock
-    ∷ record {
+
+-- The end of the clock.
+abbrev pub end_of_clock : WorkedRun
+end_of_clock =
+    record {
       stamps = last_stamp ∷ last_stamp ∷ [];
-      values = 7 ∷ [];
-      calls = begin_by 0 ∷ begin_by 1 ∷ store_by 0 0 8 ∷ load_by 1 0 ∷ begin_by 1 ∷ [];
-      answers = Ok ∷ Ok ∷ Ok ∷ Gone WrittenLater 1000000002 ∷ No (fault_in_call ClockSpent 1000000002) ∷ [];
-      last = (0, 7) ∷ [];
+      first_values = 7 ∷ [];
+      rows =
+          (begin_by 0, Ok)
+          ∷ (begin_by 1, Ok)
+          ∷ (store_by 0 0 8, Ok)
+          ∷ (load_by 1 0, Gone WrittenLater 1000000002)
+          ∷ (begin_by 1, No (fault_in_call ClockSpent 1000000002))
+          ∷ [];
+      last_values = 7 ∷ [];
     }
+
+-- All of them.
+abbrev pub worked_runs : List WorkedRun
+worked_runs =
+    reads_after_commit
+    ∷ older_reader
+    ∷ waits_for_commit
+    ∷ own_last_commit
+    ∷ two_at_one_stamp
+    ∷ line_is_full
+    ∷ first_to_arrive
+    ∷ end_of_clock
     ∷ []
 
--- What each line named in a case holds at its end.
-abbrev pub left : Case → List (Option ℕ)
-left c =
-    let m = (exact_run c.stamps c.values c.calls).machine in map (λ (n : ℕ × ℕ). m.lines n.0) c.last
+-- What the calls are answered and what each line holds in the end, as the rules turn the run.
+abbrev pub turned : WorkedRun → List Answer × List (Option ℕ)
+turned r =
+    let after = exact_run r.stamps r.first_values (map (λ (row : Call × Answer). row.0) r.rows) in
+    (map (λ (e : Event). e.answer) after.events, map after.machine.lines (upto (length r.first_values)))
 
--- Each worked run answers and leaves what its row says.
+-- The same, as the run says it.
+abbrev pub said : WorkedRun → List Answer × List (Option ℕ)
+said r = (map (λ (row : Call × Answer). row.1) r.rows, map Some r.last_values)
+
+-- Each worked run is turned as it says.
 abbrev pub WorkedRunsStand : Type 0
-WorkedRunsStand =
-    (map turned worked_runs ≡ map (λ (c : Case). c.answers) worked_runs)
-    × (map left worked_runs ≡ map (λ (c : Case). map (λ (n : ℕ × ℕ). Option.Some n.1) c.last) worked_runs)
+WorkedRunsStand = map turned worked_runs ≡ map said worked_runs

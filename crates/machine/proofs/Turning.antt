@@ -13,7 +13,7 @@ use Rattle.rules.specs.Ending.{Woken, tried, retries, tries, wakes, settles, let
 use Rattle.rules.specs.State.{warp_row_of}
 use Rattle.rules.specs.declared.state.Access.{Access}
 use Rattle.rules.specs.declared.state.Request.{Request}
-use Rattle.machine.specs.Moves.{none_yet, coming_out, try_at, wake_at, comes_through}
+use Rattle.machine.specs.Moves.{none_yet, try_at, wake_at, comes_through}
 
 module _ {k : Kind} where
   tried_machine :
@@ -91,8 +91,8 @@ module _ {k : Kind} where
 
     pub tried_lost :
         (access : Access) (cause : Cause) (next : ℕ)
-        → coming_out m w (LostOut cause next) ≡ (tried (none_yet m) w line access (lost cause next)).machine
-    unfolding tried settles
+        → settles m w (LostOut cause next) ≡ (tried (none_yet m) w line access (lost cause next)).machine
+    unfolding tried
     tried_lost access cause next = refl
 
     pub tried_on : (access : Access) → comes_through m w line access ≡ (tried (none_yet m) w line access go_on).machine

@@ -4,11 +4,10 @@ use Rattle.std.specs.Option.{unwrap_or, option_or}
 use Rattle.protocol.specs.declared.answer.Answer.{Answer}
 use Rattle.protocol.specs.declared.answer.Answer.TheVariants.{No}
 use Rattle.protocol.specs.declared.answer.Cause.TheVariants.{QueueFull}
-use Rattle.protocol.specs.declared.answer.Outcome.{Outcome}
 use Rattle.protocol.specs.declared.call.Op.{Op}
 use Rattle.protocol.specs.declared.fault.Fault.{Fault}
 use Rattle.rules.specs.declared.state.Access.{Access}
-use Rattle.rules.specs.declared.state.Phase.TheVariants.{Waiting, Settled}
+use Rattle.rules.specs.declared.state.Phase.TheVariants.{Waiting}
 use Rattle.rules.specs.declared.state.Request.{Request}
 use Rattle.memory.specs.Lines.{put}
 use Rattle.book.specs.Meaning.{Kind, released, taken}
@@ -17,7 +16,7 @@ use Rattle.protocol.specs.declared.fault.Refusal.TheVariants.{LogFull, ClockSpen
 use Rattle.rules.specs.Lists.{last_stored}
 use Rattle.rules.specs.State.{WarpRow, Machine, with_lines, with_book, with_warp_row, with_queue, in_phase, time_of, warp_row_of}
 use Rattle.rules.specs.Access.{Verdict, lost, must_wait}
-use Rattle.rules.specs.Queue.{product, is_full, without}
+use Rattle.rules.specs.Queue.{product, is_full}
 use Rattle.rules.specs.Ending.{Woken, settles, tries, wakes}
 use Rattle.rules.specs.Steps.{Step, accessed, step}
 use Rattle.rules.specs.Serving.{memory_value, serves}
@@ -38,11 +37,6 @@ module _ {k : Kind} where
   abbrev pub comes_through : Machine k → ℕ → ℕ → Access → Machine k
   comes_through m w line access =
       let served = serves m w line access in settles served.machine w served.outcome
-
-  -- A request comes out with an outcome, which its warp may fetch.
-  abbrev pub coming_out : Machine k → ℕ → Outcome → Machine k
-  coming_out m w outcome =
-      with_queue (with_warp_row m w (in_phase (warp_row_of m w) (Settled outcome))) (without m.queue w)
 
   -- What a turn at a line leaves, and all turns at it.
   abbrev pub try_at : ℕ → Machine k → ℕ → Machine k

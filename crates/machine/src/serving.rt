@@ -2,10 +2,11 @@
 ghost use Rattle.std.specs.Prelude.{◌≡◌, ◌<◌, true, false, length};
 ghost use Rattle.protocol.specs.Limits.{line_limit};
 ghost use Rattle.rules.specs.State.{is_waiting};
+ghost use Rattle.rules.specs.Ending.{settles};
 ghost use Rattle.rules.specs.Serving.{serves, serves_own};
 ghost use Rattle.tables.specs.Pages.{warp_row, has_room};
 ghost use Rattle.machine.specs.Meaning.{state};
-ghost use Rattle.machine.specs.Moves.{coming_out, try_at, wake_at, comes_through};
+ghost use Rattle.machine.specs.Moves.{try_at, wake_at, comes_through};
 
 use crate::state::Machine;
 use crate::verdict::Verdict;
@@ -102,7 +103,7 @@ impl<M: Memory, B: Book> Machine<M, B> {
     /// A request comes out: it leaves the queue, and its warp has the outcome to fetch, at the stamp that it had.
     fn come_out(&mut self, warp: u32, outcome: Outcome)
         ensures { state M.Memory.at B.Book.kind B.Book.model self.new
-            ≡ coming_out (state M.Memory.at B.Book.kind B.Book.model self.old) warp outcome }
+            ≡ settles (state M.Memory.at B.Book.kind B.Book.model self.old) warp outcome }
     {
         self.tables.settle(warp, outcome);
     }

@@ -1,4 +1,5 @@
--- The access steps: what a load or a store meets at its line. The first step that applies decides.
+-- The access steps: what a load or a store meets at its line. The first step that applies decides. Each step is
+-- written with those that come after it, so the last stands first here.
 use Rattle.std.specs.Prelude.{ℕ, ◌+◌, max, Bool, false, cond, Some, None, Option, ◌==◌, nat_lt}
 use Rattle.protocol.specs.declared.answer.Cause.{Cause}
 use Rattle.protocol.specs.declared.answer.Cause.TheVariants.{WrittenLater, ReadLater, QueueFull, NoSlot}
@@ -7,7 +8,9 @@ use Rattle.book.specs.Time.{Time, earlier}
 use Rattle.rules.specs.declared.state.Access.{Access}
 use Rattle.rules.specs.declared.state.Access.TheVariants.{Read, Write}
 
--- What the book tells of a line.
+-- What the book tells of a line. A transaction with a smaller stamp than the write stamp may not use it any more; one
+-- earlier than the read mark, a stamp with its warp, may not store to it. The owner is the warp that has it reserved; a
+-- line without a slot cannot be reserved now.
 pub record Told : Type 0 where
   pub write_stamp : ℕ
   pub read_mark : Time

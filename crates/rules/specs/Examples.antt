@@ -17,6 +17,7 @@ pub record Sample : Type 0 where
   pub values : List ℕ
   pub calls : List Call
 
+-- It is turned; its ledger; what it commits.
 abbrev pub sample_run : Sample → Run exact
 sample_run s = exact_run s.stamps s.values s.calls
 
@@ -128,6 +129,7 @@ lost_update =
     record { stamp = 0; warp = 0; deeds = stored 0 8 ∷ loaded 0 7 at_first ∷ [] }
     ∷ record { stamp = 0; warp = 1; deeds = stored 0 9 ∷ loaded 0 7 at_first ∷ [] } ∷ []
 
+-- An order explains it if the accounts agree.
 abbrev pub Explains : List ℕ → Type 0
 Explains order =
     EqualAccounts 2 (account_of lost_update (word_lines (9 ∷ []))) (alone (word_lines (7 ∷ [])) lost_update order)

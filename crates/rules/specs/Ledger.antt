@@ -1,12 +1,12 @@
--- The machine's account of a run, kept call by call: what joins which transaction, and when.
+-- The ledger: the machine's account of a run, kept from the answers, call by call: what joins which transaction, when.
 use Rattle.std.specs.Prelude.{ℕ, cond, List, [], ◌∷◌, ◌++◌, Some, None, fold, Option, ◌==◌}
 use Rattle.std.specs.Option.{option_map}
 use Rattle.protocol.specs.declared.answer.Answer.{Answer}
-use Rattle.protocol.specs.declared.answer.Answer.TheVariants.{Ok, Val, Wait, Gone, No}
+use Rattle.protocol.specs.declared.answer.Answer.TheVariants.{Ok, Val, Gone}
 use Rattle.protocol.specs.declared.answer.Outcome.{Outcome}
 use Rattle.protocol.specs.declared.answer.Outcome.TheVariants.{Value, Stored, Gone as Lost}
 use Rattle.protocol.specs.declared.call.Op.{Op}
-use Rattle.protocol.specs.declared.call.Op.TheVariants.{Begin, Load, Store, Commit, Drop, Fetch}
+use Rattle.protocol.specs.declared.call.Op.TheVariants.{Begin, Load, Store, Commit, Drop}
 use Rattle.rules.specs.declared.state.Access.{Access}
 use Rattle.rules.specs.declared.state.Access.TheVariants.{Read, Write}
 use Rattle.rules.specs.Lists.{last_of}
@@ -26,7 +26,7 @@ found_at (Some value) others = own
 
 -- A transaction that has done one thing more.
 abbrev pub doing : Transaction → Deed → Transaction
-doing tx deed = record { stamp = tx.stamp; warp = tx.warp; deeds = deed ∷ tx.deeds }
+doing tx deed = record tx { deeds = deed ∷ tx.deeds }
 
 -- What a load finds when it joins its transaction.
 abbrev pub load_found : List Transaction → Transaction → ℕ → Found
@@ -34,8 +34,7 @@ load_found txs tx line = found_at (own_store tx.deeds line) (last_found (last_of
 
 -- One warp's transaction changes.
 abbrev pub with_current : Ledger → ℕ → Option Transaction → Ledger
-with_current l w tx =
-    record { current = λ v. cond (v == w) tx (l.current v); committed = l.committed }
+with_current l w tx = record l { current = λ v. cond (v == w) tx (l.current v) }
 
 -- A load or a store joins its warp's transaction.
 abbrev pub joins : Ledger → ℕ → (Transaction → Deed) → Ledger
@@ -54,46 +53,43 @@ begins l w stamp = with_current l w (Some (record { stamp = stamp; warp = w; dee
 abbrev pub ends_here : Ledger → ℕ → Ledger
 ends_here l w = with_current l w None
 
+-- What a warp commits: the transaction that it has.
 abbrev pub as_list : Option Transaction → List Transaction
 as_list None = []
 as_list (Some tx) = tx ∷ []
 
 abbrev pub commits : Ledger → ℕ → Ledger
-commits l w =
-    record { current = (ends_here l w).current; committed = l.committed ++ as_list (l.current w) }
+commits l w = record (ends_here l w) { committed = l.committed ++ as_list (l.current w) }
 
--- What an answer says of the call's own warp. Refusals and waits say nothing, and a fetch joins nothing.
+-- What the answer `ok` says of the call's own warp, which stands at a stamp. A fetched store joined when it came out.
 abbrev pub says_ok : Ledger → ℕ → ℕ → Op → Ledger
 says_ok l w stamp Begin = begins l w stamp
-says_ok l w stamp (Load line) = l
 says_ok l w stamp (Store line value) = joins_store l w line value
 says_ok l w stamp Commit = commits l w
 says_ok l w stamp Drop = ends_here l w
-says_ok l w stamp Fetch = l
+says_ok l w stamp op = l
 
+-- What a value says. A fetched load joined when it came out.
 abbrev pub says_value : Ledger → ℕ → Op → ℕ → Ledger
-says_value l w Begin value = l
 says_value l w (Load line) value = joins_load l w line value
-says_value l w (Store line stored_value) value = l
-says_value l w Commit value = l
-says_value l w Drop value = l
-says_value l w Fetch value = l
+says_value l w op value = l
 
+-- What any answer says: a wait and a refusal nothing.
 abbrev pub says : Ledger → ℕ → ℕ → Op → Answer → Ledger
 says l w stamp op Ok = says_ok l w stamp op
 says l w stamp op (Val value) = says_value l w op value
-says l w stamp op Wait = l
 says l w stamp op (Gone cause next) = ends_here l w
-says l w stamp op (No fault) = l
+says l w stamp op answer = l
 
--- A request that came out joins its warp's transaction, unless it came out as gone: that is told at the fetch.
+-- A request that came out joins its warp's transaction, unless it came out as gone: that is told at the fetch. A load
+-- comes out with a value, a store as stored; nothing is said of the rest.
 abbrev pub comes_as : Ledger → ℕ → ℕ → Access → Outcome → Ledger
 comes_as l w line access (Lost cause next) = l
 comes_as l w line Read (Value value) = joins_load l w line value
-comes_as l w line (Write new) (Value value) = l
-comes_as l w line Read Stored = l
 comes_as l w line (Write new) Stored = joins_store l w line new
+comes_as l w line access outcome = l
 
+-- One of those that came out of the queue at a call.
 abbrev pub settles_one : Ledger → Settling → Ledger
 settles_one l s = comes_as l s.warp s.line s.access s.outcome
 

@@ -5,48 +5,38 @@ use Rattle.protocol.specs.Faults.{fault_in_call}
 use Rattle.protocol.specs.Limits.{line_limit, log_limit, last_stamp}
 use Rattle.protocol.specs.declared.call.Call.{Call}
 use Rattle.protocol.specs.declared.call.Op.{Op}
-use Rattle.protocol.specs.declared.call.Op.TheVariants.{Begin, Load, Store, Commit, Drop, Fetch}
+use Rattle.protocol.specs.declared.call.Op.TheVariants.{Begin, Load, Store, Fetch}
 use Rattle.protocol.specs.declared.fault.Fault.{Fault}
 use Rattle.protocol.specs.declared.fault.Refusal.{Refusal}
 use Rattle.protocol.specs.declared.fault.Refusal.TheVariants.{NoSuchWarp, WarpIdle, WarpNotIdle, OutcomePending}
 use Rattle.protocol.specs.declared.fault.Refusal.TheVariants.{NothingToFetch, NoSuchLine, LogFull, ClockSpent}
 use Rattle.book.specs.Meaning.{Kind}
 use Rattle.rules.specs.declared.state.Phase.{Phase}
-use Rattle.rules.specs.declared.state.Phase.TheVariants.{Idle, Open, Waiting, Settled}
+use Rattle.rules.specs.declared.state.Phase.TheVariants.{Idle, Open}
 use Rattle.rules.specs.State.{Machine, warp_row_of}
 
--- What a warp may not ask for while it has no transaction, while it may go on, and while an outcome is out.
+-- What a warp may not ask for while it has no transaction, while it may go on, and while the outcome of a load or a
+-- store that had to wait is not fetched.
 abbrev pub idle_refuses : Op → Option Refusal
 idle_refuses Begin = None
-idle_refuses (Load line) = Some WarpIdle
-idle_refuses (Store line value) = Some WarpIdle
-idle_refuses Commit = Some WarpIdle
-idle_refuses Drop = Some WarpIdle
-idle_refuses Fetch = Some WarpIdle
+idle_refuses op = Some WarpIdle
 
 abbrev pub open_refuses : Op → Option Refusal
 open_refuses Begin = Some WarpNotIdle
-open_refuses (Load line) = None
-open_refuses (Store line value) = None
-open_refuses Commit = None
-open_refuses Drop = None
 open_refuses Fetch = Some NothingToFetch
+open_refuses op = None
 
 abbrev pub pending_refuses : Op → Option Refusal
 pending_refuses Begin = Some WarpNotIdle
-pending_refuses (Load line) = Some OutcomePending
-pending_refuses (Store line value) = Some OutcomePending
-pending_refuses Commit = Some OutcomePending
-pending_refuses Drop = Some OutcomePending
 pending_refuses Fetch = None
+pending_refuses op = Some OutcomePending
 
 abbrev pub phase_refuses : Phase → Op → Option Refusal
 phase_refuses Idle op = idle_refuses op
 phase_refuses Open op = open_refuses op
-phase_refuses Waiting op = pending_refuses op
-phase_refuses (Settled outcome) op = pending_refuses op
+phase_refuses phase op = pending_refuses op
 
--- The fault of a refusal, if there is one.
+-- A refusal, if there is one, as it is told: with the layer that tells it and the offending number.
 abbrev pub faulty : Option Refusal → ℕ → Option Fault
 faulty None number = None
 faulty (Some why) number = Some (fault_in_call why number)
@@ -60,16 +50,14 @@ module _ {k : Kind} where
   abbrev pub has_line : Machine k → ℕ → Bool
   has_line m line = nat_lt line line_limit && is_some (m.lines line)
 
-  -- A line that is lacking, a full log, a clock that is spent.
+  -- A clock that is spent, a line that is lacking, a full log.
   abbrev pub number_fault : Machine k → ℕ → Op → Option Fault
   number_fault m w Begin = unless (nat_le (warp_row_of m w).stamp last_stamp) ClockSpent (warp_row_of m w).stamp
   number_fault m w (Load line) = unless (has_line m line) NoSuchLine line
   number_fault m w (Store line value) =
       option_or (unless (has_line m line) NoSuchLine line)
       (unless (nat_lt (length (warp_row_of m w).log) log_limit) LogFull (length (warp_row_of m w).log))
-  number_fault m w Commit = None
-  number_fault m w Drop = None
-  number_fault m w Fetch = None
+  number_fault m w op = None
 
   -- All refusals, in the order of their numbers: the first is told.
   abbrev pub fault_of : Machine k → Call → Option Fault

@@ -1,4 +1,4 @@
--- What there is: warps with their logs, the queue, and the machine over any memory and any book.
+-- What there is: warps with their logs, the queue, and the machine over any memory and any version book.
 use Rattle.std.specs.Prelude.{ℕ, Bool, true, false, List, [], ◌∷◌, ◌++◌, slice_index_or, slice_set}
 use Rattle.protocol.specs.declared.answer.Outcome.{Outcome}
 use Rattle.memory.specs.Lines.{Lines}
@@ -6,24 +6,25 @@ use Rattle.book.specs.Meaning.{Kind}
 use Rattle.book.specs.Time.{Time}
 use Rattle.rules.specs.declared.state.Access.{Access}
 use Rattle.rules.specs.declared.state.Phase.{Phase}
-use Rattle.rules.specs.declared.state.Phase.TheVariants.{Idle, Open, Waiting, Settled}
+use Rattle.rules.specs.declared.state.Phase.TheVariants.{Idle, Open, Waiting}
 use Rattle.rules.specs.declared.state.Request.{Request}
 
--- A warp: what it is doing, its stamp, and its log: what its transaction stored, line and value, in the order made.
+-- A warp's row: what it is doing; its stamp, by which its transactions are ordered in logical time; and its log: what
+-- its transaction stored, line and value, in the order made.
 pub record WarpRow : Type 0 where
   pub phase : Phase
   pub stamp : ℕ
   pub log : List (ℕ × ℕ)
 
--- The machine: its memory and its book by their meanings, a row for each warp, and the requests that wait, in the
--- order in which they came.
+-- The machine: what each line of its memory holds, the state of its book, which tells who may still load or store a
+-- line, a row for each warp, and the requests that wait, in the order in which they came.
 pub record Machine (k : Kind) : Type 0 where
   pub lines : Lines
   pub book : k.State
   pub warp_rows : List WarpRow
   pub queue : List Request
 
--- A request that waited has come out.
+-- A request that waited and has come out of the queue, with its outcome.
 pub record Settling : Type 0 where
   pub warp : ℕ
   pub line : ℕ
@@ -34,26 +35,25 @@ pub record Settling : Type 0 where
 abbrev pub idle_at : ℕ → WarpRow
 idle_at stamp = record { phase = Idle; stamp = stamp; log = [] }
 
+-- A warp with a transaction that has stored nothing yet.
+abbrev pub open_at : ℕ → WarpRow
+open_at stamp = record { phase = Open; stamp = stamp; log = [] }
+
 -- What a phase says.
 abbrev pub is_idle : Phase → Bool
 is_idle Idle = true
-is_idle Open = false
-is_idle Waiting = false
-is_idle (Settled outcome) = false
+is_idle phase = false
 
 abbrev pub is_waiting : Phase → Bool
-is_waiting Idle = false
-is_waiting Open = false
 is_waiting Waiting = true
-is_waiting (Settled outcome) = false
+is_waiting phase = false
 
 -- A row in another phase; a row with one store more.
 abbrev pub in_phase : WarpRow → Phase → WarpRow
-in_phase warp_row phase = record { phase = phase; stamp = warp_row.stamp; log = warp_row.log }
+in_phase warp_row phase = record warp_row { phase = phase }
 
 abbrev pub logging : WarpRow → ℕ → ℕ → WarpRow
-logging warp_row line value =
-    record { phase = warp_row.phase; stamp = warp_row.stamp; log = warp_row.log ++ (line, value) ∷ [] }
+logging warp_row line value = record warp_row { log = warp_row.log ++ (line, value) ∷ [] }
 
 -- A warp's row, among the rows of all; a warp that the machine lacks is taken for an idle one.
 abbrev pub warp_row_at : List WarpRow → ℕ → WarpRow
@@ -70,14 +70,13 @@ module _ {k : Kind} where
 
   -- A machine with another memory, book, row or queue.
   abbrev pub with_lines : Machine k → Lines → Machine k
-  with_lines m lines = record { lines = lines; book = m.book; warp_rows = m.warp_rows; queue = m.queue }
+  with_lines m lines = record m { lines = lines }
 
   abbrev pub with_book : Machine k → k.State → Machine k
-  with_book m book = record { lines = m.lines; book = book; warp_rows = m.warp_rows; queue = m.queue }
+  with_book m book = record m { book = book }
 
   abbrev pub with_warp_row : Machine k → ℕ → WarpRow → Machine k
-  with_warp_row m w warp_row =
-      record { lines = m.lines; book = m.book; warp_rows = slice_set m.warp_rows w warp_row; queue = m.queue }
+  with_warp_row m w warp_row = record m { warp_rows = slice_set m.warp_rows w warp_row }
 
   abbrev pub with_queue : Machine k → List Request → Machine k
-  with_queue m queue = record { lines = m.lines; book = m.book; warp_rows = m.warp_rows; queue = queue }
+  with_queue m queue = record m { queue = queue }

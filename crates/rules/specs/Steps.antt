@@ -4,7 +4,7 @@ use Rattle.protocol.specs.Answers.{answer_of}
 use Rattle.protocol.specs.declared.answer.Answer.{Answer}
 use Rattle.protocol.specs.declared.answer.Answer.TheVariants.{Ok, Wait, No, Gone}
 use Rattle.protocol.specs.declared.answer.Outcome.{Outcome}
-use Rattle.protocol.specs.declared.answer.Outcome.TheVariants.{Value, Stored, Gone as Lost}
+use Rattle.protocol.specs.declared.answer.Outcome.TheVariants.{Gone as Lost}
 use Rattle.protocol.specs.declared.call.Call.{Call}
 use Rattle.protocol.specs.declared.call.Op.{Op}
 use Rattle.protocol.specs.declared.call.Op.TheVariants.{Begin, Load, Store, Commit, Drop, Fetch}
@@ -14,15 +14,15 @@ use Rattle.book.specs.Meaning.{Kind}
 use Rattle.rules.specs.declared.state.Access.{Access}
 use Rattle.rules.specs.declared.state.Access.TheVariants.{Read, Write}
 use Rattle.rules.specs.declared.state.Phase.{Phase}
-use Rattle.rules.specs.declared.state.Phase.TheVariants.{Idle, Open, Waiting, Settled}
-use Rattle.rules.specs.State.{Machine, Settling, in_phase, warp_row_of, time_of, with_lines, with_warp_row, with_queue}
+use Rattle.rules.specs.declared.state.Phase.TheVariants.{Open, Waiting, Settled}
+use Rattle.rules.specs.State.{Machine, Settling, open_at, in_phase, warp_row_of, time_of, with_lines, with_warp_row, with_queue}
 use Rattle.rules.specs.Access.{Verdict, told, decide, own_line, lost, must_wait, go_on}
 use Rattle.rules.specs.Queue.{Policy, is_full}
 use Rattle.rules.specs.Refusals.{fault_of}
-use Rattle.rules.specs.Serving.{serves, serves_own}
+use Rattle.rules.specs.Serving.{Served, serves, serves_own}
 use Rattle.rules.specs.Ending.{ends, Woken}
 
--- What a call leaves.
+-- What a call leaves: the machine, its answer, and the requests that it let come out of the queue, in turn.
 pub record Step (k : Kind) : Type 0 where
   pub machine : Machine k
   pub answer : Answer
@@ -50,14 +50,16 @@ module _ {k : Kind} where
       with_queue (with_warp_row m w (in_phase (warp_row_of m w) Waiting))
       (m.queue ++ record { warp = w; line = line; access = access } ∷ [])
 
+  -- A load or a store that is served is answered by its outcome.
+  abbrev pub answers_served : Served k → Step k
+  answers_served served = answers served.machine (answer_of served.outcome)
+
   -- A load or a store by its verdict.
   unfoldable pub accessed : Policy k → Machine k → ℕ → ℕ → Access → Verdict → Step k
-  accessed policy m w line access own_line =
-      let served = serves_own m w line access in answers served.machine (answer_of served.outcome)
+  accessed policy m w line access own_line = answers_served (serves_own m w line access)
   accessed policy m w line access (lost cause next) = ended (ends policy m w next) (Gone cause next)
   accessed policy m w line access must_wait = answers (waits m w line access) Wait
-  accessed policy m w line access go_on =
-      let served = serves m w line access in answers served.machine (answer_of served.outcome)
+  accessed policy m w line access go_on = answers_served (serves m w line access)
 
   -- The access steps, at what the book tells of the line now.
   abbrev pub verdict_at : Policy k → Machine k → ℕ → ℕ → Access → Verdict
@@ -70,22 +72,17 @@ module _ {k : Kind} where
 
   -- A fetched outcome: after a value or a store the warp goes on; gone, its transaction ends.
   unfoldable pub fetched : Policy k → Machine k → ℕ → Outcome → Step k
-  fetched policy m w (Value value) =
-      answers (with_warp_row m w (in_phase (warp_row_of m w) Open)) (answer_of (Value value))
-  fetched policy m w Stored = answers (with_warp_row m w (in_phase (warp_row_of m w) Open)) (answer_of Stored)
-  fetched policy m w (Lost cause next) = ended (ends policy m w next) (answer_of (Lost cause next))
+  fetched policy m w (Lost cause next) = ended (ends policy m w next) (Gone cause next)
+  fetched policy m w outcome = answers (with_warp_row m w (in_phase (warp_row_of m w) Open)) (answer_of outcome)
 
   -- A fetch by what its warp is doing. A warp that is idle or open is refused before; it would be told to wait.
   abbrev pub fetches : Policy k → Machine k → ℕ → Phase → Step k
-  fetches policy m w Idle = answers m Wait
-  fetches policy m w Open = answers m Wait
-  fetches policy m w Waiting = answers m Wait
   fetches policy m w (Settled outcome) = fetched policy m w outcome
+  fetches policy m w phase = answers m Wait
 
   -- A call that is not refused.
   abbrev pub granted : Policy k → Machine k → ℕ → Op → Step k
-  granted policy m w Begin =
-      answers (with_warp_row m w (record { phase = Open; stamp = (warp_row_of m w).stamp; log = [] })) Ok
+  granted policy m w Begin = answers (with_warp_row m w (open_at (warp_row_of m w).stamp)) Ok
   granted policy m w (Load line) = accesses policy m w line Read
   granted policy m w (Store line value) = accesses policy m w line (Write value)
   granted policy m w Commit = ended (ends policy (writes_back m w) w (warp_row_of m w).stamp) Ok

@@ -1,10 +1,9 @@
 -- What the tables mean: a row for each warp, and the requests that wait.
-use Rattle.std.specs.Prelude.{ℕ, Bool, true, List, [], map, length, Some, None, Option, nat_lt}
+use Rattle.std.specs.Prelude.{ℕ, Bool, true, List, map, length, Some, None, Option, nat_lt}
 use Rattle.protocol.specs.Limits.{log_limit}
 use Rattle.rules.specs.State.{WarpRow, warp_row_at}
 use Rattle.rules.specs.declared.state.Access.{Access}
 use Rattle.rules.specs.declared.state.Access.TheVariants.{Read, Write}
-use Rattle.rules.specs.declared.state.Phase.TheVariants.{Open}
 use Rattle.rules.specs.declared.state.Request.{Request}
 use Rattle.tables.specs.Lists.{places}
 use Rattle.tables.specs.Rows.{warp_row_in}
@@ -18,10 +17,6 @@ queued t = places t.queue
 
 abbrev pub warp_row : Tables → ℕ → WarpRow
 warp_row t w = warp_row_at (warp_rows t) w
-
--- A warp with a transaction that has stored nothing yet.
-abbrev pub open_at : ℕ → WarpRow
-open_at stamp = record { phase = Open; stamp = stamp; log = [] }
 
 -- The log has room for what is to be done.
 abbrev pub has_room : WarpRow → Access → Bool

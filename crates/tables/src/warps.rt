@@ -3,11 +3,11 @@ ghost use Rattle.std.specs.Prelude.{◌≡◌, ◌<◌, true, false, [], ◌∷�
 ghost use Rattle.protocol.specs.Limits.{line_room, queue_room, log_limit};
 ghost use Rattle.rules.specs.Ending.{logged_lines};
 ghost use Rattle.rules.specs.Queue.{request_of, requests_on, without, is_full, pending_at};
-ghost use Rattle.rules.specs.State.{idle_at, in_phase, logging, is_waiting};
+ghost use Rattle.rules.specs.State.{idle_at, open_at, in_phase, logging, is_waiting};
 ghost use Rattle.rules.specs.declared.state.Phase.TheVariants.{Open, Waiting, Settled};
 ghost use Rattle.tables.specs.Lists.{place_at};
 ghost use Rattle.tables.specs.Rows.{log_of, lines_in, warp_row_in};
-ghost use Rattle.tables.specs.Pages.{warp_rows, queued, warp_row, open_at, room_for, has_room};
+ghost use Rattle.tables.specs.Pages.{warp_rows, queued, warp_row, room_for, has_room};
 
 use crate::row::{Log, Row, Store};
 use crate::state::Tables;

@@ -2,6 +2,7 @@
 #![tactic(auto)]
 
 pub mod listing;
+mod row;
 #[cfg(test)]
 mod tests;
 pub mod text;

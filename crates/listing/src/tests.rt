@@ -1,6 +1,7 @@
 //! Small listings, by example.
 use crate::listing::list;
-use crate::text::add_number;
+use crate::text::add_bad_row;
+use protocol::fault::{Fault, Layer, Refusal};
 use std::alloc::Global;
 use std::process::Abort;
 use std::test::Fail;
@@ -13,7 +14,12 @@ fn lists(rt: &impl Abort, heap: Global, bytes: &[u8], text: &[u8]) -> Result<(),
 }
 
 fn written(rt: &impl Abort, heap: Global, number: u64, text: &[u8]) -> Result<(), Fail> {
-    let all = add_number(String::new(heap), number)?;
+    let fault = Fault {
+        refusal: Refusal::NoSuchWarp,
+        layer: Layer::Machine,
+        number,
+    };
+    let all = add_bad_row(String::new(heap), fault)?;
     assert!(rt; all.as_bytes() == text);
     Ok(())
 }
@@ -79,11 +85,11 @@ fn small_files(rt: HostRuntime) -> Result<(), Fail> {
 #[test]
 fn numbers_in_digits(rt: HostRuntime) -> Result<(), Fail> {
     let heap = rt.alloc();
-    written(&rt, heap, 0, b"0")?;
-    written(&rt, heap, 9, b"9")?;
-    written(&rt, heap, 10, b"10")?;
-    written(&rt, heap, 99, b"99")?;
-    written(&rt, heap, 100, b"100")?;
-    written(&rt, heap, 1_000_000_002, b"1000000002")?;
-    written(&rt, heap, u64::MAX, b"18446744073709551615")
+    written(&rt, heap, 0, b"bad 1 0\n")?;
+    written(&rt, heap, 9, b"bad 1 9\n")?;
+    written(&rt, heap, 10, b"bad 1 10\n")?;
+    written(&rt, heap, 99, b"bad 1 99\n")?;
+    written(&rt, heap, 100, b"bad 1 100\n")?;
+    written(&rt, heap, 1_000_000_002, b"bad 1 1000000002\n")?;
+    written(&rt, heap, u64::MAX, b"bad 1 18446744073709551615\n")
 }

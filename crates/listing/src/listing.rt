@@ -1,6 +1,7 @@
 //! From the bytes of a calls file to the text of its listing.
-ghost use Rattle.std.specs.Prelude.{◌≡◌, ◌++◌, IfOk, string_bytes};
+ghost use Rattle.std.specs.Prelude.{◌≡◌, ◌++◌, IfOk, OnOk, string_bytes};
 ghost use Rattle.machine.specs.Running.{run_of};
+ghost use Rattle.listing.specs.Rows.{bad_row};
 ghost use Rattle.listing.specs.Listing.{call_rows, line_row, mem_rows, run_text, said_text, listing_text};
 
 use crate::text::{add_bad_row, add_call_row, add_mem_row};
@@ -24,9 +25,18 @@ pub fn list(heap: Global, bytes: &[u8]) -> Result<String, AllocError>
 {
     match read(heap, bytes) {
         Ok(file) => list_file(heap, file),
-        Err(ReadError::Damaged(fault)) => add_bad_row(String::new(heap), fault),
+        Err(ReadError::Damaged(fault)) => list_damage(heap, fault),
         Err(ReadError::NoMemory) => Err(AllocError),
     }
+}
+
+// The listing of a file whose header is damaged.
+fn list_damage(heap: Global, fault: Fault) -> Result<String, AllocError>
+    ensures { IfOk result (λ t. string_bytes t ≡ bad_row fault) }
+{
+    let mut text = String::new(heap);
+    add_bad_row(&mut text, fault)?;
+    Ok(text)
 }
 
 // The listing of a file whose header is sound.
@@ -78,53 +88,53 @@ impl Script<'_> {
             self.now.calls.now self.now.fault self.now.lines) }
     {
         let ran = run(heap, memory, book, self.stamps, self.calls)?;
-        let text = add_call_rows(String::new(heap), self.calls, ran.answers.as_slice())?;
+        let mut text = String::new(heap);
+        add_call_rows(&mut text, self.calls, ran.answers.as_slice())?;
         match self.fault {
-            Some(fault) => add_bad_row(text, fault),
-            None => add_mem_rows(text, &ran.machine, self.lines),
+            Some(fault) => add_bad_row(&mut text, fault)?,
+            None => add_mem_rows(&mut text, &ran.machine, self.lines)?,
         }
+        Ok(text)
     }
 }
 
-// The text with a row for each call and its answer. The calls are the caller's and the answers the run's, so they come as
-// two slices.
-fn add_call_rows(text: String, calls: &[Call], answers: &[Answer]) -> Result<String, AllocError>
-    ensures { IfOk result (λ t. string_bytes t ≡ string_bytes text ++ call_rows 1 calls.now answers.now) }
+// Adds a row for each call and its answer. The calls are the caller's and the answers the run's, so they come as two
+// slices.
+fn add_call_rows(text: &mut String, calls: &[Call], answers: &[Answer]) -> Result<(), AllocError>
+    ensures { OnOk result (string_bytes text.new ≡ string_bytes text.old ++ call_rows 1 calls.now answers.now) }
 {
-    let mut all = text;
     for (i, (call, answer)) in calls.iter().zip(answers).enumerate() {
-        all = add_call_row(all, i as u64 + 1, *call, *answer)?;
+        add_call_row(text, i as u64 + 1, *call, *answer)?;
     }
-    Ok(all)
+    Ok(())
 }
 
-// The text with a row for each line below a limit that the machine's memory has.
+// Adds a row for each line below a limit that the machine's memory has.
 fn add_mem_rows<M: Memory, B: Book>(
-    text: String,
+    text: &mut String,
     machine: &Machine<M, B>,
     limit: u32,
-) -> Result<String, AllocError>
-    ensures { IfOk result (λ t. string_bytes t
-        ≡ string_bytes text ++ mem_rows (M.Memory.at machine.now.memory) limit) }
+) -> Result<(), AllocError>
+    ensures { OnOk result (string_bytes text.new
+        ≡ string_bytes text.old ++ mem_rows (M.Memory.at machine.now.memory) limit) }
 {
-    let mut all = text;
     for line in 0..limit {
-        all = add_line_row(all, machine, line)?;
+        add_line_row(text, machine, line)?;
     }
-    Ok(all)
+    Ok(())
 }
 
-// The text with the row of a line, if the memory has it.
+// Adds the row of a line, if the memory has it.
 fn add_line_row<M: Memory, B: Book>(
-    text: String,
+    text: &mut String,
     machine: &Machine<M, B>,
     line: u32,
-) -> Result<String, AllocError>
-    ensures { IfOk result (λ t. string_bytes t
-        ≡ string_bytes text ++ line_row line (M.Memory.at machine.now.memory line)) }
+) -> Result<(), AllocError>
+    ensures { OnOk result (string_bytes text.new
+        ≡ string_bytes text.old ++ line_row line (M.Memory.at machine.now.memory line)) }
 {
     match machine.value(line) {
         Ok(value) => add_mem_row(text, line, value),
-        Err(_) => Ok(text),
+        Err(_) => Ok(()),
     }
 }

@@ -9,7 +9,7 @@ use protocol::answer::Answer;
 use std::str;
 
 /// More bytes than any row has.
-const ROOM: usize = 128;
+const ROOM: usize = 96;
 
 /// The end of a row, as far as it is written.
 #[derive(Drop)]
@@ -23,7 +23,7 @@ impl Tail {
     pub(crate) fn new() -> Tail
         ensures text { tail result ≡ [] }
         ensures utf8 { IsUtf8 (tail result) }
-        ensures start { result.start ≡ 128 }
+        ensures start { result.start ≡ 96 }
     {
         Tail {
             bytes: [0; ROOM],
@@ -37,7 +37,7 @@ impl Tail {
         requires ascii { byte < 128 }
         requires utf8 { IsUtf8 (tail self.old) }
         requires room { 1 ≤ self.old.start }
-        requires within { self.old.start ≤ 128 }
+        requires within { self.old.start ≤ 96 }
         ensures utf8 { IsUtf8 (tail self.new) }
         ensures text { tail self.new ≡ byte ∷ tail self.old }
         ensures start { self.new.start + 1 ≡ self.old.start }
@@ -51,7 +51,7 @@ impl Tail {
     pub(crate) fn number(&mut self, number: u64)
         requires utf8 { IsUtf8 (tail self.old) }
         requires room { 20 ≤ self.old.start }
-        requires within { self.old.start ≤ 128 }
+        requires within { self.old.start ≤ 96 }
         ensures utf8 { IsUtf8 (tail self.new) }
         ensures text { tail self.new ≡ decimal number ++ tail self.old }
         ensures start { self.old.start ≤ self.new.start + 20 }
@@ -65,7 +65,7 @@ impl Tail {
     pub(crate) fn word(&mut self, word: &str)
         requires utf8 { IsUtf8 (tail self.old) }
         requires room { length word.now ≤ self.old.start }
-        requires within { self.old.start ≤ 128 }
+        requires within { self.old.start ≤ 96 }
         ensures utf8 { IsUtf8 (tail self.new) }
         ensures text { tail self.new ≡ word.now ++ tail self.old }
         ensures start { self.new.start + length word.now ≡ self.old.start }
@@ -78,11 +78,11 @@ impl Tail {
     /// An answer before what is written.
     pub(crate) fn answer(&mut self, answer: Answer)
         requires utf8 { IsUtf8 (tail self.old) }
-        requires room { 64 ≤ self.old.start }
-        requires within { self.old.start ≤ 128 }
+        requires room { 46 ≤ self.old.start }
+        requires within { self.old.start ≤ 96 }
         ensures utf8 { IsUtf8 (tail self.new) }
         ensures text { tail self.new ≡ answer_text answer ++ tail self.old }
-        ensures start { self.old.start ≤ self.new.start + 64 }
+        ensures start { self.old.start ≤ self.new.start + 46 }
         ensures still { self.new.start ≤ self.old.start }
     {
         match answer {
@@ -107,7 +107,7 @@ impl Tail {
 
     /// The row.
     pub(crate) fn as_str(&self) -> &str
-        requires within { self.now.start ≤ 128 }
+        requires within { self.now.start ≤ 96 }
         requires utf8 { IsUtf8 (tail self.now) }
         ensures { result.now ≡ tail self.now }
     {

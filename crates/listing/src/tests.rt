@@ -19,7 +19,8 @@ fn written(rt: &impl Abort, heap: Global, number: u64, text: &[u8]) -> Result<()
         layer: Layer::Machine,
         number,
     };
-    let all = add_bad_row(String::new(heap), fault)?;
+    let mut all = String::new(heap);
+    add_bad_row(&mut all, fault)?;
     assert!(rt; all.as_bytes() == text);
     Ok(())
 }

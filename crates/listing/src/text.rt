@@ -1,5 +1,5 @@
-//! The rows, each after a text. A text is handed on by value: where memory is wanting, nothing is left of one cut short.
-ghost use Rattle.std.specs.Prelude.{◌≡◌, ◌++◌, IfOk, string_bytes};
+//! The rows, each after a text. Where memory is wanting, the text is as it was: a row is there whole or not at all.
+ghost use Rattle.std.specs.Prelude.{◌≡◌, ◌++◌, OnOk, OnErr, string_bytes};
 ghost use Rattle.listing.specs.Rows.{mem_row, bad_row, call_row};
 
 use crate::row::Tail;
@@ -8,9 +8,10 @@ use protocol::call::Call;
 use protocol::fault::Fault;
 use std::alloc::AllocError;
 
-/// The text with the row of a line's value at the end of a run.
-pub fn add_mem_row(mut text: String, line: u32, value: u32) -> Result<String, AllocError>
-    ensures { IfOk result (λ t. string_bytes t ≡ string_bytes text ++ mem_row line value) }
+/// Adds the row of a line's value at the end of a run.
+pub fn add_mem_row(text: &mut String, line: u32, value: u32) -> Result<(), AllocError>
+    ensures row { OnOk result (string_bytes text.new ≡ string_bytes text.old ++ mem_row line value) }
+    ensures kept { OnErr result (string_bytes text.new ≡ string_bytes text.old) }
 {
     let mut row = Tail::new();
     row.byte(b'\n');
@@ -18,13 +19,13 @@ pub fn add_mem_row(mut text: String, line: u32, value: u32) -> Result<String, Al
     row.byte(b' ');
     row.number(u64::from(line));
     row.word("mem ");
-    text.push_str(row.as_str())?;
-    Ok(text)
+    text.push_str(row.as_str())
 }
 
-/// The text with the row of what is wrong with a calls file, the last of its listing.
-pub fn add_bad_row(mut text: String, fault: Fault) -> Result<String, AllocError>
-    ensures { IfOk result (λ t. string_bytes t ≡ string_bytes text ++ bad_row fault) }
+/// Adds the row of what is wrong with a calls file, the last of its listing.
+pub fn add_bad_row(text: &mut String, fault: Fault) -> Result<(), AllocError>
+    ensures row { OnOk result (string_bytes text.new ≡ string_bytes text.old ++ bad_row fault) }
+    ensures kept { OnErr result (string_bytes text.new ≡ string_bytes text.old) }
 {
     let mut row = Tail::new();
     row.byte(b'\n');
@@ -32,18 +33,18 @@ pub fn add_bad_row(mut text: String, fault: Fault) -> Result<String, AllocError>
     row.byte(b' ');
     row.number(u64::from(fault.refusal.number()));
     row.word("bad ");
-    text.push_str(row.as_str())?;
-    Ok(text)
+    text.push_str(row.as_str())
 }
 
-/// The text with the row of a call, by its place in the run from 1: its letter, its warp and its answer.
+/// Adds the row of a call, by its place in the run from 1: its letter, its warp and its answer.
 pub fn add_call_row(
-    mut text: String,
+    text: &mut String,
     place: u64,
     call: Call,
     answer: Answer,
-) -> Result<String, AllocError>
-    ensures { IfOk result (λ t. string_bytes t ≡ string_bytes text ++ call_row place call answer) }
+) -> Result<(), AllocError>
+    ensures row { OnOk result (string_bytes text.new ≡ string_bytes text.old ++ call_row place call answer) }
+    ensures kept { OnErr result (string_bytes text.new ≡ string_bytes text.old) }
 {
     let mut row = Tail::new();
     row.byte(b'\n');
@@ -54,6 +55,5 @@ pub fn add_call_row(
     row.byte(call.op.letter() as u8);
     row.byte(b' ');
     row.number(place);
-    text.push_str(row.as_str())?;
-    Ok(text)
+    text.push_str(row.as_str())
 }

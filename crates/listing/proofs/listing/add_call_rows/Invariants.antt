@@ -7,7 +7,7 @@ use Rattle.listing.proofs.listing.add_call_rows.Given as goal
 -- What is listed and what is still to be listed are the whole.
 abbrev pub invariant-loop-i : goal.invariant-loop-i
 invariant-loop-i l =
-    string_bytes l.all
+    string_bytes l.text
     ++ call_rows (enumerate_count l.i-iterator + 1) (iter_rest (zip_first (enumerate_source l.i-iterator)))
     (iter_rest (zip_second (enumerate_source l.i-iterator)))
     ≡ string_bytes l.fn.text ++ call_rows 1 l.calls l.answers

@@ -4,4 +4,4 @@ use Rattle.listing.proofs.listing.add_mem_rows.Given as goal
 
 abbrev pub invariant-loop-line : goal.invariant-loop-line
 invariant-loop-line g l =
-    string_bytes l.all ≡ string_bytes l.fn.text ++ mem_rows (g.M.Memory.at l.machine.memory) l.line
+    string_bytes l.text ≡ string_bytes l.fn.text ++ mem_rows (g.M.Memory.at l.machine.memory) l.line

@@ -1,5 +1,5 @@
 -- A transaction that is released, at rest and woken has ended.
-use Rattle.std.proofs.Common.{◌≡◌, ℕ, List, set, fold, sym, ap, ◌∙◌}
+use Rattle.std.proofs.Common.{◌≡◌, ℕ, List, [], ◌∷◌, length, set, fold, refl, sym, ap, ◌∙◌}
 use Rattle.book.specs.Meaning.{Kind}
 use Rattle.rules.specs.Queue.{product}
 use Rattle.rules.specs.State.{WarpRow, Machine, idle_at, warp_row_of}
@@ -30,3 +30,15 @@ module _ {k : Kind} (m : Machine k) (w stamp : ℕ) where
   ended_is mid after warp_rows queue lines is e a b f =
       f ∙ ap (λ x. fold wake_at x lines) (rested mid warp_rows queue lines is e a b)
       ∙ ap (fold wake_at (lets_go m w stamp)) is ∙ sym (ends_is m w stamp)
+
+  -- One without a store holds no line, so nothing is released and nobody is woken.
+  none_logged : (log : List (ℕ × ℕ)) → length log ≡ 0 → [] ≡ logged_lines log
+  none_logged [] e = refl
+  none_logged (s ∷ log) e = cc
+
+  pub ended_without_stores :
+      (warp_rows : List WarpRow) (queue : List Request) → length (warp_row_of m w).log ≡ 0
+      → warp_rows ≡ set m.warp_rows w (idle_at stamp) → queue ≡ m.queue
+      → built m.lines m.book warp_rows queue ≡ (ends (product k) m w stamp).machine
+  ended_without_stores warp_rows queue e a b =
+      ended_is m (built m.lines m.book warp_rows queue) warp_rows queue [] (none_logged (warp_row_of m w).log e) refl a b refl

@@ -33,6 +33,10 @@ impl<M: Memory, B: Book> Machine<M, B> {
             ≡ (ends (product B.Book.kind) (state M.Memory.at B.Book.kind B.Book.model self.old)
             warp stamp).machine }
     {
+        if self.tables.stored(warp) == 0 {
+            self.tables.rest(warp, stamp);
+            return;
+        }
         let firsts = self.tables.firsts(warp);
         let stores = firsts.stores();
         self.release_all(stores);

@@ -1,2 +1,3 @@
 mod CondensedNew
 mod SharedMark
+mod Rooms

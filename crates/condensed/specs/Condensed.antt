@@ -1,6 +1,6 @@
 -- The condensed book: sixteen slots, a filter for all other lines, and the latest stamp.
 use Rattle.std.specs.Prelude.{◌≡◌, ℕ, ◌+◌, ◌<◌, ◌≤◌, max, Bool, true, false, cond, ◌&&◌, List, map, length, get_or, replicate, is_some, Some, None, Option, ◌==◌, nat_lt, slice_index_or, slice_set}
-use Rattle.std.specs.List.{position}
+use Rattle.std.specs.List.{list_any, position}
 use Rattle.protocol.specs.Limits.{line_limit}
 use Rattle.choice.specs.Rule.{chosen}
 use Rattle.book.specs.Time.{Time}
@@ -69,6 +69,10 @@ key_of (Some there) = cond (stores_told there.entry == 0) (Some there.entry.stam
 
 abbrev pub slot_key : Slot → Option ℕ
 slot_key slot = key_of slot.occupant
+
+-- One of the slots may be taken.
+abbrev pub any_free : List Slot → Bool
+any_free slots = list_any (λ slot. is_some (slot_key slot)) slots
 
 -- Where a line goes that is to be reserved: the slot that it is in, or else the one that is chosen.
 abbrev pub or_else : Option ℕ → Option ℕ → Option ℕ

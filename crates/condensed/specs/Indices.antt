@@ -42,6 +42,16 @@ unfolding index_by
 index_none numbers i index bits past = ap (λ xs. bit_xor index (index_by xs bits)) (drop_all i numbers past)
     ∙ xor_zero_r index
 
+-- No bit is left to be set.
+pub index_zero : (numbers : List ℕ) → index_by numbers 0 ≡ 0
+unfolding index_by
+index_zero [] = refl
+index_zero (number ∷ numbers) = ap (bit_xor 0) (index_zero numbers)
+
+pub index_over : (numbers : List ℕ) (index bits : ℕ) → bits ≡ 0 → bit_xor index (index_by numbers bits) ≡ index
+index_over numbers index bits e =
+    ap (λ b. bit_xor index (index_by numbers b)) e ∙ ap (bit_xor index) (index_zero numbers) ∙ xor_zero_r index
+
 -- Numbers that are all within a way.
 abbrev small : List ℕ → Bool
 small [] = true

@@ -1,5 +1,5 @@
 //! The condensed book: a few slots, and a filter that tells of all other lines no earlier than it must.
-ghost use Rattle.std.specs.Prelude.{◌≡◌, ◌<◌, max, Some, None};
+ghost use Rattle.std.specs.Prelude.{◌≡◌, ◌<◌, max, is_some, Some, None};
 ghost use Rattle.std.specs.Option.{option_map};
 ghost use Rattle.protocol.specs.Limits.{line_limit};
 ghost use Rattle.book.specs.Meaning.{New};
@@ -12,7 +12,7 @@ ghost use Rattle.condensed.specs.Shared.{SharedMark};
 ghost use Rattle.condensed.specs.CondensedKeeps.{condensed_keeps};
 
 use crate::filter::{Filter, indices};
-use crate::slot::{Occupant, Place, Slot, position_of};
+use crate::slot::{Occupant, Place, Slot, any_free, position_of};
 use crate::state::CondensedBook;
 use book::entry::{Entry, Stamps, can_be};
 use book::record::{Book, Told};
@@ -61,6 +61,13 @@ impl CondensedBook {
         }
         let at = choose(&self.slots)?;
         Some(Place { at })
+    }
+
+    /// Whether there is a slot for a line, by the slot that it is in.
+    fn has_room(&self, inside: Option<Place>) -> bool
+        ensures { result ≡ is_some (place_in self.now.slots (option_map place_at inside)) }
+    {
+        inside.is_some() || any_free(&self.slots)
     }
 
     /// What the book tells of a line with a number, from the slot that it is in or else from the filter.
@@ -154,7 +161,7 @@ impl Book for CondensedBook {
     }
 
     fn has_slot(&self, line: u32) -> bool {
-        line < LINES && self.place_for(line).is_some()
+        line < LINES && self.has_room(self.slot_of(line))
     }
 
     fn told(&self, line: u32) -> Told {
@@ -172,7 +179,7 @@ impl Book for CondensedBook {
             written: entry.stamps.write,
             read: entry.stamps.read,
             owner: entry.owner(),
-            slot: self.place_in(inside).is_some(),
+            slot: self.has_room(inside),
         }
     }
 

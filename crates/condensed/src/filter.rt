@@ -35,6 +35,9 @@ fn index(numbers: [usize; 12], line: u32) -> usize
 {
     let mut index = 0;
     for (bit, number) in numbers.iter().enumerate() {
+        if line >> bit == 0 {
+            break;
+        }
         if (line >> bit) % 2 == 1 {
             index ^= *number;
         }

@@ -1,6 +1,7 @@
 //! A slot of the condensed book.
-ghost use Rattle.std.specs.Prelude.{◌≡◌, ◌<◌, length, IfSome};
+ghost use Rattle.std.specs.Prelude.{◌≡◌, ◌<◌, length, is_some, IfSome};
 ghost use Rattle.condensed.specs.Condensed.{holds, entry_in, slot_of, slot_key};
+ghost use Rattle.std.specs.List.{list_any};
 
 use book::entry::Entry;
 use choice::Ranked;
@@ -36,6 +37,14 @@ impl Slot {
         self.occupant.is_some_and(|occupant| occupant.line == line)
     }
 
+    /// Whether the slot may be taken: no store holds the line in it.
+    pub fn is_free(&self) -> bool
+        ensures { result ≡ is_some (slot_key self.now) }
+    {
+        self.occupant
+            .is_none_or(|occupant| occupant.entry.stores() == 0)
+    }
+
     /// What is told of the line in the slot; without one, as of a line that no call named yet.
     pub fn entry(self) -> Entry
         ensures { result ≡ entry_in self }
@@ -64,4 +73,11 @@ pub(crate) fn position_of(slots: &[Slot], line: u32) -> Option<usize>
     ensures within { IfSome result (λ at. at < length slots.now) }
 {
     slots.iter().position(|slot| slot.holds(line))
+}
+
+/// Whether one of the slots may be taken.
+pub(crate) fn any_free(slots: &[Slot]) -> bool
+    ensures { result ≡ list_any (λ slot. is_some (slot_key slot)) slots.now }
+{
+    slots.iter().any(|slot| slot.is_free())
 }

@@ -1,7 +1,7 @@
 -- Where a slot may be taken, one is chosen, and the other way round.
 use Rattle.std.proofs.Common.{◌≡◌, ℕ, ◌+◌, Bool, true, false, cond, ◌||◌, List, [], ◌∷◌, map, is_some, nat_le, Some, None, Option, refl, sym, ap, ◌∙◌}
 use Rattle.std.specs.Option.{option_map}
-use Rattle.choice.specs.Rule.{better_of, best_from, chosen}
+use Rattle.choice.specs.Rule.{better_of, best_from}
 use Rattle.condensed.specs.Condensed.{any_free, slot_key, place_in}
 use Rattle.condensed.specs.declared.slot.Slot.{Slot}
 

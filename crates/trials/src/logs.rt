@@ -1,0 +1,114 @@
+//! What a transaction holds: its log, its lines, and the slots that these take.
+use crate::asked::{line_has, warp_has};
+use crate::rows::{Row, turns};
+use book::exact::ExactBook;
+use condensed::state::CondensedBook;
+use machine::state::Machine;
+use memory::word::WordMemory;
+use rules::state::Phase;
+use std::test::Fail;
+
+// The last of 32 stores; then every other is refused, unless something else refuses it first.
+const FULL: [Row; 12] = [
+    ('S', 0, 0, 9, "ok"),
+    ('S', 0, 0, 1, "no 7 machine 32"),
+    ('S', 0, 1, 1, "no 7 machine 32"),
+    ('S', 0, 9, 1, "no 6 memory 9"),
+    ('L', 0, 0, 0, "val 9"),
+    ('L', 0, 2, 0, "val 6"),
+    ('L', 0, 1, 0, "wait"),
+    ('S', 0, 0, 1, "no 4 machine 0"),
+    ('C', 1, 0, 0, "ok"),
+    ('F', 0, 0, 0, "val 71"),
+    ('S', 0, 0, 1, "no 7 machine 32"),
+    ('C', 0, 0, 0, "ok"),
+];
+
+#[test]
+fn a_log_of_32_stores(rt: HostRuntime) -> Result<(), Fail> {
+    let (heap, mut words) = (rt.alloc(), [0, 70, 2]);
+    let memory = WordMemory { words: &mut words };
+    let (mut machine, _) = Machine::make(memory, ExactBook::new(), &[5, 0]);
+    let opened = [
+        ('B', 0, 0, 0, "ok"),
+        ('B', 1, 0, 0, "ok"),
+        ('S', 1, 1, 71, "ok"),
+    ];
+    turns(&rt, heap, &mut machine, &opened)?;
+    turns(&rt, heap, &mut machine, &[('S', 0, 0, 5, "ok"); 16])?;
+    turns(&rt, heap, &mut machine, &[('S', 0, 2, 6, "ok"); 15])?;
+    warp_has(&rt, &machine, 0, 5, 31);
+    line_has(&rt, &machine, 0, 16, Some(0));
+    line_has(&rt, &machine, 2, 15, Some(0));
+    turns(&rt, heap, &mut machine, &FULL)?;
+    warp_has(&rt, &machine, 0, 5, 0);
+    line_has(&rt, &machine, 0, 0, None);
+    line_has(&rt, &machine, 2, 0, None);
+    assert!(rt; words == [9, 71, 6]);
+    Ok(())
+}
+
+const DROPPED: [Row; 3] = [
+    ('B', 0, 0, 0, "ok"),
+    ('S', 0, 0, 9, "ok"),
+    ('D', 0, 0, 0, "ok"),
+];
+
+// The drop left the line's write stamp too.
+const OWN_DROP: [Row; 2] = [('B', 0, 0, 0, "ok"), ('L', 0, 0, 0, "gone 1 22")];
+
+#[test]
+fn a_drop_leaves_memory_and_stamp(rt: HostRuntime) -> Result<(), Fail> {
+    let mut words = [7];
+    let memory = WordMemory { words: &mut words };
+    let (mut machine, _) = Machine::make(memory, ExactBook::new(), &[20]);
+    turns(&rt, rt.alloc(), &mut machine, &DROPPED)?;
+    assert!(rt; matches!(machine.phase(0), Phase::Idle));
+    assert!(rt; machine.value(0) == Ok(7));
+    warp_has(&rt, &machine, 0, 20, 0);
+    line_has(&rt, &machine, 0, 0, None);
+    turns(&rt, rt.alloc(), &mut machine, &OWN_DROP)
+}
+
+const SIXTEEN_LINES: [Row; 19] = [
+    ('B', 0, 0, 0, "ok"),
+    ('S', 0, 0, 1, "ok"),
+    ('S', 0, 1, 1, "ok"),
+    ('S', 0, 2, 1, "ok"),
+    ('S', 0, 3, 1, "ok"),
+    ('S', 0, 4, 1, "ok"),
+    ('S', 0, 5, 1, "ok"),
+    ('S', 0, 6, 1, "ok"),
+    ('S', 0, 7, 1, "ok"),
+    ('S', 0, 8, 1, "ok"),
+    ('S', 0, 9, 1, "ok"),
+    ('S', 0, 10, 1, "ok"),
+    ('S', 0, 11, 1, "ok"),
+    ('S', 0, 12, 1, "ok"),
+    ('S', 0, 13, 1, "ok"),
+    ('S', 0, 14, 1, "ok"),
+    ('S', 0, 15, 1, "ok"),
+    ('B', 1, 0, 0, "ok"),
+    ('L', 1, 16, 0, "val 0"),
+];
+
+// Once the sixteen lines are released the next store takes the slot of line 0, whose write stamp the filter tells then.
+const NO_SLOT: [Row; 5] = [
+    ('S', 0, 16, 1, "gone 4 7"),
+    ('B', 0, 0, 0, "ok"),
+    ('S', 0, 16, 1, "ok"),
+    ('L', 1, 16, 0, "gone 1 9"),
+    ('L', 0, 0, 0, "gone 1 9"),
+];
+
+#[test]
+fn sixteen_slots(rt: HostRuntime) -> Result<(), Fail> {
+    let mut words = [0; 17];
+    let memory = WordMemory { words: &mut words };
+    let (mut machine, _) = Machine::make(memory, CondensedBook::new(), &[7, 3]);
+    turns(&rt, rt.alloc(), &mut machine, &SIXTEEN_LINES)?;
+    assert!(rt; !machine.line(16).slot);
+    turns(&rt, rt.alloc(), &mut machine, &NO_SLOT)?;
+    assert!(rt; words == [0; 17]);
+    Ok(())
+}

@@ -1,0 +1,103 @@
+//! What the words after the program's name ask for.
+ghost use Rattle.std.specs.Prelude.{◌≡◌, Some};
+ghost use Rattle.golden.specs.Asking.{texts, name_in, calls_in, alone, asked, calls_of, command_of, told, slip_text};
+
+use std::error::Error;
+use std::fmt;
+
+/// Where the calls come from.
+#[derive(Clone, Copy, PartialEq, Eq, Debug)]
+pub enum Source<'a> {
+    StandardInput,
+    File { path: &'a str },
+}
+
+/// What the program is to do.
+#[derive(Clone, Copy, PartialEq, Eq, Debug)]
+pub enum Command<'a> {
+    /// The listing of the calls.
+    List { calls: Source<'a> },
+    Help,
+    Version,
+}
+
+/// Why the words ask for nothing.
+#[derive(Clone, Copy, PartialEq, Eq, Debug)]
+pub enum UsageError<'a> {
+    UnknownWord { word: &'a str },
+    TooManyWords { word: &'a str },
+}
+
+impl fmt::Display for UsageError<'_> {
+    ghost output = { λ error. Some (slip_text error) };
+
+    fn fmt<W: fmt::Write>(&self, f: &mut fmt::Formatter<W>) -> fmt::Result {
+        match *self {
+            UsageError::UnknownWord { word } => write!(
+                f,
+                "there is no option {word}, see golden --help"
+            ),
+            UsageError::TooManyWords { word } => write!(
+                f,
+                "{word} is a word too many, see golden --help"
+            ),
+        }
+    }
+}
+
+impl Error for UsageError<'_> {}
+
+/// What the words ask for.
+pub fn read_command(words: &[String]) -> Result<Command<'_>, UsageError<'_>>
+    ensures { told command_of result ≡ asked (texts words.now) }
+{
+    let Some((first, rest)) = words.split_first() else {
+        return Ok(Command::List {
+            calls: Source::StandardInput,
+        });
+    };
+    match first.as_str() {
+        "--help" => alone(rest, Command::Help),
+        "--version" => alone(rest, Command::Version),
+        _ => Ok(Command::List {
+            calls: read_source(words)?,
+        }),
+    }
+}
+
+// A command that no word may follow.
+fn alone<'a>(rest: &'a [String], command: Command<'a>) -> Result<Command<'a>, UsageError<'a>>
+    ensures { told command_of result ≡ alone (command_of command.entry) (texts rest.now) }
+{
+    match rest.first() {
+        None => Ok(command),
+        Some(word) => Err(UsageError::TooManyWords {
+            word: word.as_str(),
+        }),
+    }
+}
+
+// Where the calls come from: the one file that is named, or standard input.
+fn read_source(words: &[String]) -> Result<Source<'_>, UsageError<'_>>
+    ensures { told calls_of result ≡ calls_in (texts words.now) }
+{
+    match words {
+        [] => Ok(Source::StandardInput),
+        [word] => Ok(Source::File {
+            path: read_path(word.as_str())?,
+        }),
+        [_, word, ..] => Err(UsageError::TooManyWords {
+            word: word.as_str(),
+        }),
+    }
+}
+
+// A file's name. A word that begins with a dash is an option and names no file.
+fn read_path(word: &str) -> Result<&str, UsageError<'_>>
+    ensures { told (λ name. name.now) result ≡ name_in word.now }
+{
+    match word.as_bytes() {
+        [b'-', ..] => Err(UsageError::UnknownWord { word }),
+        _ => Ok(word),
+    }
+}

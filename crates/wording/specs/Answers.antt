@@ -4,6 +4,7 @@ use Rattle.protocol.specs.declared.answer.Answer.{Answer}
 use Rattle.protocol.specs.declared.answer.Answer.TheVariants.{Ok, Val, Wait, Gone, No}
 use Rattle.protocol.specs.declared.answer.Cause.{Cause}
 use Rattle.protocol.specs.declared.answer.Cause.TheVariants.{WrittenLater, ReadLater, QueueFull, NoSlot}
+use Rattle.protocol.specs.Faults.{refusal_number}
 use Rattle.protocol.specs.declared.fault.Refusal.{Refusal}
 use Rattle.protocol.specs.declared.fault.Refusal.TheVariants.{NoSuchWarp, WarpIdle, WarpNotIdle, OutcomePending}
 use Rattle.protocol.specs.declared.fault.Refusal.TheVariants.{NothingToFetch, NoSuchLine, LogFull, ClockSpent}
@@ -42,4 +43,5 @@ answer_words (Val value) = codes "the value is " ++ decimal value
 answer_words Wait = codes "it waits"
 answer_words (Gone cause next) =
     codes "its transaction is gone, since " ++ (cause_words cause ++ (codes "; its next stamp is " ++ decimal next))
-answer_words (No fault) = codes "it is refused, since " ++ refusal_words fault.refusal
+answer_words (No fault) =
+    codes "check " ++ (decimal (refusal_number fault.refusal) ++ (codes " refuses it: " ++ refusal_words fault.refusal))

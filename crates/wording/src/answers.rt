@@ -63,11 +63,15 @@ impl fmt::Display for AnswerInWords {
                     cause_words(cause)
                 )
             }
-            Answer::No { fault } => write!(
-                f,
-                "it is refused, since {}",
-                refusal_words(fault.refusal)
-            ),
+            Answer::No { fault } => {
+                let refusal = fault.refusal;
+                write!(
+                    f,
+                    "check {} refuses it: {}",
+                    refusal.number(),
+                    refusal_words(refusal)
+                )
+            }
         }
     }
 }

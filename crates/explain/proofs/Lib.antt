@@ -1,0 +1,4 @@
+pub mod Requests
+pub mod Texts
+pub mod Lines
+pub mod Told

@@ -1,0 +1,4 @@
+pub mod Before
+pub mod Waiting
+pub mod Row
+pub mod Explained

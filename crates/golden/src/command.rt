@@ -1,6 +1,6 @@
 //! What the words after the program's name ask for.
 ghost use Rattle.std.specs.Prelude.{◌≡◌, Some};
-ghost use Rattle.golden.specs.Asking.{texts, name_in, calls_in, alone, asked, calls_of, command_of, told, slip_text};
+ghost use Rattle.golden.specs.Asking.{texts, name_in, calls_in, alone, compared, asked, calls_of, command_of, told, slip_text};
 
 use std::error::Error;
 use std::fmt;
@@ -17,6 +17,10 @@ pub enum Source<'a> {
 pub enum Command<'a> {
     /// The listing of the calls.
     List { calls: Source<'a> },
+    /// Whether a listing is that of the calls, and if not, where it differs first.
+    Compare { listing: &'a str, calls: Source<'a> },
+    /// The listing of the calls, and under each row why it is as it is.
+    Explain { calls: Source<'a> },
     Help,
     Version,
 }
@@ -26,6 +30,7 @@ pub enum Command<'a> {
 pub enum UsageError<'a> {
     UnknownWord { word: &'a str },
     TooManyWords { word: &'a str },
+    NoListing,
 }
 
 impl fmt::Display for UsageError<'_> {
@@ -41,6 +46,7 @@ impl fmt::Display for UsageError<'_> {
                 f,
                 "{word} is a word too many, see golden --help"
             ),
+            UsageError::NoListing => write!(f, "--compare needs a listing, see golden --help"),
         }
     }
 }
@@ -59,6 +65,10 @@ pub fn read_command(words: &[String]) -> Result<Command<'_>, UsageError<'_>>
     match first.as_str() {
         "--help" => alone(rest, Command::Help),
         "--version" => alone(rest, Command::Version),
+        "--explain" => Ok(Command::Explain {
+            calls: read_source(rest)?,
+        }),
+        "--compare" => read_compare(rest),
         _ => Ok(Command::List {
             calls: read_source(words)?,
         }),
@@ -75,6 +85,16 @@ fn alone<'a>(rest: &'a [String], command: Command<'a>) -> Result<Command<'a>, Us
             word: word.as_str(),
         }),
     }
+}
+
+// A listing's file, and where the calls come from.
+fn read_compare(rest: &[String]) -> Result<Command<'_>, UsageError<'_>>
+    ensures { told command_of result ≡ compared (texts rest.now) }
+{
+    let (first, rest) = rest.split_first().ok_or(UsageError::NoListing)?;
+    let listing = read_path(first.as_str())?;
+    let calls = read_source(rest)?;
+    Ok(Command::Compare { listing, calls })
 }
 
 // Where the calls come from: the one file that is named, or standard input.

@@ -1,10 +1,12 @@
-//! Turns a calls file into its listing, and tells what it is asked besides.
+//! Turns a calls file into its listing, explains it, and compares other listings with it.
 #![tactic(auto)]
 
 use anyhow::Context;
 use calls::reader::enough_bytes;
 use command::{Command, Source, read_command};
+use explain::explain::explain;
 use listing::listing::list;
+use report::report::make_report;
 use std::fs::File;
 use std::io::{Read, Write};
 use std::process::ExitCode;
@@ -18,68 +20,89 @@ const RULES_LEVEL: u32 = 1;
 /// The Rattle that everything here is proved with, as its command `rt version` prints it.
 const KIT: &str = "rattle-kit-13f logic dac8208d650f15bf";
 
+/// No listing is as long.
+const ENOUGH_OF_A_LISTING: u64 = 1 << 20;
+
 const HELP: &str = "\
 golden, the reference machine for a GPU's transactional memory
 
-    golden [FILE]      lists the calls of FILE, or of standard input
-    golden --help      prints this
-    golden --version   prints what it is proved with, and the level of the machine's rules
+    golden [FILE]                     lists the calls
+    golden --compare LISTING [FILE]   says whether LISTING is the listing of the calls
+    golden --explain [FILE]           lists the calls, and under each row why it is so
+    golden --help                     prints this
+    golden --version                  prints what it is proved with, and the level of its rules
 
-The listing goes to standard output. Whatever fails is one sentence on standard error, and status 1.
+The calls are those of FILE, or of standard input. A name that begins with a dash is
+written ./-NAME. What fails is told in one sentence on standard error, and the status
+is 1; it is 1 too where a listing differs.
 ";
 
 fn main(rt: HostRuntime) -> ExitCode {
-    match answer(&rt) {
-        Ok(()) => ExitCode::SUCCESS,
-        Err(error) => {
-            let _ = eprintln!(rt; "golden: {error:#}");
-            ExitCode::FAILURE
-        }
-    }
+    answer(&rt).unwrap_or_else(|error| {
+        let _ = eprintln!(rt; "golden: {error:#}");
+        ExitCode::FAILURE
+    })
 }
 
-// Does what the words after the program's name ask for.
-fn answer(rt: &HostRuntime) -> anyhow::Result<()> {
-    let words: Vec<String> = env::args(rt)?.skip(1).collect(rt.alloc())?;
+// Does what the words after the program's name ask for. Nothing is written before all of it is there.
+fn answer(rt: &HostRuntime) -> anyhow::Result<ExitCode> {
+    let heap = rt.alloc();
+    let words: Vec<String> = env::args(rt)?.skip(1).collect(heap)?;
     match read_command(words.as_slice())? {
-        Command::List { calls } => write_listing(rt, calls),
+        Command::List { calls } => {
+            let bytes = read_calls(rt, calls)?;
+            write_text(rt, list(heap, bytes.as_slice())?.as_str())
+        }
+        Command::Explain { calls } => {
+            let bytes = read_calls(rt, calls)?;
+            write_text(rt, explain(heap, bytes.as_slice())?.as_str())
+        }
+        Command::Compare { listing, calls } => compare(rt, listing, calls),
         Command::Help => write_text(rt, HELP),
         Command::Version => {
-            println!(rt; "{KIT}")?;
-            println!(rt; "rules level {RULES_LEVEL}")?;
-            Ok(())
+            let text = format!(in heap; "{KIT}\nrules level {RULES_LEVEL}\n")?;
+            write_text(rt, text.as_str())
         }
     }
 }
 
-// Writes nothing before the whole listing is there.
-fn write_listing(rt: &HostRuntime, calls: Source) -> anyhow::Result<()> {
+// A listing that differs is no error, and has status 1.
+fn compare(rt: &HostRuntime, listing: &str, calls: Source) -> anyhow::Result<ExitCode> {
+    let listing = read_file(rt, listing, ENOUGH_OF_A_LISTING)?;
     let bytes = read_calls(rt, calls)?;
-    let text = list(rt.alloc(), bytes.as_slice())?;
-    write_text(rt, text.as_str())
+    let report = make_report(rt.alloc(), bytes.as_slice(), listing.as_slice())?;
+    write_text(rt, report.text.as_str())?;
+    Ok(if report.matches {
+        ExitCode::SUCCESS
+    } else {
+        ExitCode::FAILURE
+    })
 }
 
+// No more is read of the calls than can change what is told of them.
 fn read_calls(rt: &HostRuntime, calls: Source) -> anyhow::Result<Vec<u8>> {
+    let limit = enough_bytes() as u64;
     match calls {
-        Source::StandardInput => Ok(read_front(rt, rt.stdin())?),
-        Source::File { path } => {
-            read_file(rt, path).context(format_args!("{path} cannot be read"))
-        }
+        Source::StandardInput => Ok(read_front(rt, rt.stdin(), limit)?),
+        Source::File { path } => read_file(rt, path, limit),
     }
 }
 
-fn read_file(rt: &HostRuntime, path: &str) -> io::Result<Vec<u8>> {
-    read_front(rt, File::open(rt, path)?)
+fn read_file(rt: &HostRuntime, path: &str, limit: u64) -> anyhow::Result<Vec<u8>> {
+    open_front(rt, path, limit).context(format_args!("{path} cannot be read"))
 }
 
-// Reads no more than can change what is told of the calls.
-fn read_front<R: Read + Drop>(rt: &HostRuntime, input: R) -> io::Result<Vec<u8>> {
+fn open_front(rt: &HostRuntime, path: &str, limit: u64) -> io::Result<Vec<u8>> {
+    read_front(rt, File::open(rt, path)?, limit)
+}
+
+fn read_front<R: Read + Drop>(rt: &HostRuntime, input: R, limit: u64) -> io::Result<Vec<u8>> {
     let mut bytes = Vec::new(rt.alloc());
-    input.take(enough_bytes() as u64).read_to_end(&mut bytes)?;
+    input.take(limit).read_to_end(&mut bytes)?;
     Ok(bytes)
 }
 
-fn write_text(rt: &HostRuntime, text: &str) -> anyhow::Result<()> {
+fn write_text(rt: &HostRuntime, text: &str) -> anyhow::Result<ExitCode> {
     rt.stdout().write_all(text.as_bytes())?;
-    Ok(())
+    Ok(ExitCode::SUCCESS)
 }

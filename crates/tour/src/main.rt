@@ -1,0 +1,53 @@
+//! Prints docs/TOUR.md: what golden says of an example, as the libraries behind it say it.
+#![tactic(auto)]
+
+use explain::explain::explain;
+use listing::listing::list;
+use report::report::make_report;
+use std::fs;
+
+const INTRODUCTION: &str = "\
+# A tour of golden
+
+`examples/transfers.gtm` has two warps at stamps 20 and 10 and two accounts, line 0 with 100 and line 1 with 50. Each
+warp takes 10 out of one account; then warp 0 goes on to the other, and warp 1 has to begin again.
+";
+
+fn main(rt: HostRuntime) -> anyhow::Result<()> {
+    tour(&rt)
+}
+
+// The calls and a listing of theirs, in which one row is wrong.
+fn tour(rt: &HostRuntime) -> anyhow::Result<()> {
+    let heap = rt.alloc();
+    let calls = fs::read(rt, "transfers.gtm")?;
+    let theirs = fs::read(rt, "theirs.txt")?;
+    println!(rt; "{INTRODUCTION}")?;
+    let listed = list(heap, calls.as_slice())?;
+    show(rt, "golden transfers.gtm", listed.as_str())?;
+    println!(rt; "\n## A listing that matches\n")?;
+    let same = make_report(heap, calls.as_slice(), listed.as_bytes())?;
+    show(
+        rt,
+        "golden --compare ours.txt transfers.gtm",
+        same.text.as_str(),
+    )?;
+    println!(rt;
+        "\n## A listing that differs\n\nThe simulator let the load of row 7 through. The status is 1.\n"
+    )?;
+    let other = make_report(heap, calls.as_slice(), theirs.as_slice())?;
+    show(
+        rt,
+        "golden --compare theirs.txt transfers.gtm",
+        other.text.as_str(),
+    )?;
+    println!(rt; "\n## Why each row is as it is\n")?;
+    let explained = explain(heap, calls.as_slice())?;
+    show(rt, "golden --explain transfers.gtm", explained.as_str())
+}
+
+// A command and what it writes.
+fn show(rt: &HostRuntime, command: &str, written: &str) -> anyhow::Result<()> {
+    print!(rt; "```\n$ {command}\n{written}```\n")?;
+    Ok(())
+}

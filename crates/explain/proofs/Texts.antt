@@ -8,7 +8,7 @@ use Rattle.protocol.specs.declared.call.Call.{Call}
 use Rattle.rules.specs.declared.state.Request.{Request}
 use Rattle.rules.specs.Access.{Verdict}
 use Rattle.rules.specs.Queue.{product}
-use Rattle.rules.specs.State.{Machine, lane_of}
+use Rattle.rules.specs.State.{Machine, warp_row_of}
 use Rattle.rules.specs.Steps.{step}
 use Rattle.listing.specs.Rows.{call_row}
 use Rattle.explain.specs.Before.{stamps_words, holder_words, line_met, line_rows, step_rows, verdict_met}
@@ -71,7 +71,7 @@ module _ {A E : Type 0} {k : Kind} where
       (met : Option Verdict) (line : Option ℕ) (waited : List Request)
       (text first second third blank told pushed fourth : List ℕ)
       → m' ≡ (step (product k) m call).machine → answer ≡ (step (product k) m call).answer
-      → stamp ≡ (lane_of m call.warp).stamp → met ≡ verdict_met m call.warp call.op
+      → stamp ≡ (warp_row_of m call.warp).stamp → met ≡ verdict_met m call.warp call.op
       → line ≡ line_met m call.warp call.op → waited ≡ all_waiting m
       → first ≡ text ++ call_row place call answer → second ≡ first ++ meaning_row call answer
       → third ≡ second ++ step_rows answer stamp met → blank ≡ [] → told ≡ blank ++ line_rows k m.book line
@@ -83,12 +83,12 @@ module _ {A E : Type 0} {k : Kind} where
       em ea es ev el ew e1 e2 e3 e0 e4 e5 e6 h =
       let s = step (product k) m call in
       same_parts r text _ (call_row place call s.answer) _ (meaning_row call s.answer) _
-      (step_rows s.answer (lane_of m call.warp).stamp (verdict_met m call.warp call.op)) _
+      (step_rows s.answer (warp_row_of m call.warp).stamp (verdict_met m call.warp call.op)) _
       (line_rows k m.book (line_met m call.warp call.op)) _ (after_rows s.machine (all_waiting m))
       first second third blank told pushed fourth
       (ap (λ x. call_row place call x) ea) (ap (λ x. meaning_row call x) ea)
       (ap (λ x. step_rows x stamp met) ea ∙ ap (λ x. step_rows s.answer x met) es
-      ∙ ap (λ x. step_rows s.answer (lane_of m call.warp).stamp x) ev)
+      ∙ ap (λ x. step_rows s.answer (warp_row_of m call.warp).stamp x) ev)
       (ap (λ x. line_rows k m.book x) el)
       (ap (λ x. after_rows x waited) em ∙ ap (λ x. after_rows s.machine x) ew)
       e1 e2 e3 e0 e4 e5 e6 h

@@ -5,7 +5,7 @@ use Rattle.protocol.specs.declared.call.Call.{Call}
 use Rattle.book.specs.Meaning.{Kind}
 use Rattle.rules.specs.declared.state.Request.{Request}
 use Rattle.rules.specs.Queue.{product}
-use Rattle.rules.specs.State.{Machine, lane_of}
+use Rattle.rules.specs.State.{Machine, warp_row_of}
 use Rattle.rules.specs.Steps.{step}
 use Rattle.listing.specs.Rows.{call_row}
 use Rattle.wording.specs.Answers.{answer_words}
@@ -21,7 +21,7 @@ module _ {k : Kind} where
   -- What the call met: the step that decided it, and its line as it was before.
   abbrev pub before_rows : Machine k → Call → Answer → List ℕ
   before_rows m call answer =
-      step_rows answer (lane_of m call.warp).stamp (verdict_met m call.warp call.op)
+      step_rows answer (warp_row_of m call.warp).stamp (verdict_met m call.warp call.op)
       ++ line_rows k m.book (line_met m call.warp call.op)
 
   -- What the call left: which of those that had waited came out, and who waits on whom.

@@ -8,7 +8,7 @@ use Rattle.book.specs.Meaning.{Kind}
 use Rattle.machine.specs.Outcomes.{outcome_of}
 use Rattle.rules.specs.declared.state.Request.{Request}
 use Rattle.rules.specs.Queue.{request_of}
-use Rattle.rules.specs.State.{Machine, lane_of}
+use Rattle.rules.specs.State.{Machine, warp_row_of}
 use Rattle.wording.specs.Answers.{answer_words}
 use Rattle.explain.specs.Before.{owner_words}
 
@@ -51,7 +51,7 @@ module _ {k : Kind} where
   all_waiting m = waiting_in m.queue
 
   abbrev pub settled_row : Machine k → Request → List ℕ
-  settled_row m request = outcome_row request (outcome_of (lane_of m request.warp).phase)
+  settled_row m request = outcome_row request (outcome_of (warp_row_of m request.warp).phase)
 
   abbrev pub settled_rows : Machine k → List Request → List ℕ
   settled_rows m waited = flat_map (settled_row m) waited

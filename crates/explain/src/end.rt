@@ -27,10 +27,10 @@ pub(crate) fn add_end<M: Memory, B: Book>(
 }
 
 /// The text with what is wrong with a file.
-pub(crate) fn add_fault(text: String, fault: Fault) -> Result<String, AllocError>
+pub(crate) fn add_fault(mut text: String, fault: Fault) -> Result<String, AllocError>
     ensures { IfOk result (λ t. string_bytes t ≡ string_bytes text ++ fault_told fault) }
 {
-    let text = add_bad_row(text, fault)?;
+    add_bad_row(&mut text, fault)?;
     add_damage(text, fault.number, refusal_words(fault.refusal))
 }
 
@@ -75,10 +75,10 @@ fn add_line<M: Memory, B: Book>(
 }
 
 // The text with a line's value, as a row and in words.
-fn add_value(text: String, line: u32, value: u32) -> Result<String, AllocError>
+fn add_value(mut text: String, line: u32, value: u32) -> Result<String, AllocError>
     ensures { IfOk result (λ t. string_bytes t ≡ string_bytes text ++ value_told line value) }
 {
-    let text = add_mem_row(text, line, value)?;
+    add_mem_row(&mut text, line, value)?;
     add_value_words(text, line, value)
 }
 

@@ -22,7 +22,7 @@ use wording::calls::CallInWords;
 /// decided it, its line before it, whom it settled, and who waits on whom after it.
 pub fn add_row<M: Memory, B: Book>(
     heap: Global,
-    text: String,
+    mut text: String,
     machine: &mut Machine<M, B>,
     place: u64,
     call: Call,
@@ -37,7 +37,7 @@ pub fn add_row<M: Memory, B: Book>(
     let line = add_line(String::new(heap), machine, find_line(machine, call))?;
     let waited = find_waiting(heap, machine)?;
     let answer = machine.call(call);
-    let text = add_call_row(text, place, call, answer)?;
+    add_call_row(&mut text, place, call, answer)?;
     let text = add_meaning(text, call, answer)?;
     let mut text = add_step(text, answer, stamp, met)?;
     text.push_str(line.as_str())?;

@@ -37,6 +37,7 @@ pub fn add_bad_row(text: &mut String, fault: Fault) -> Result<(), AllocError>
 }
 
 /// Adds the row of a call, by its place in the run from 1: its letter, its warp and its answer.
+#[inline(always)]
 pub fn add_call_row(
     text: &mut String,
     place: u64,

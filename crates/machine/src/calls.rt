@@ -17,6 +17,7 @@ use rules::state::{Access, Request};
 
 impl<M: Memory, B: Book> Machine<M, B> {
     /// A call that is not refused.
+    #[inline(always)]
     fn grant(&mut self, call: Call) -> Answer
         requires { fault_of (state M.Memory.at B.Book.kind B.Book.model self.old) call ≡ None }
         ensures after { state M.Memory.at B.Book.kind B.Book.model self.new
@@ -58,6 +59,7 @@ impl<M: Memory, B: Book> Machine<M, B> {
     }
 
     /// Makes a call, or says why it is refused.
+    #[inline(always)]
     pub fn request(&mut self, call: Call) -> Result<Answer, Fault>
         ensures after { state M.Memory.at B.Book.kind B.Book.model self.new
             ≡ (step (product B.Book.kind) (state M.Memory.at B.Book.kind B.Book.model self.old)
@@ -72,6 +74,7 @@ impl<M: Memory, B: Book> Machine<M, B> {
     }
 
     /// Makes a call; a refusal is an answer too.
+    #[inline(always)]
     pub fn call(&mut self, call: Call) -> Answer
         ensures after { state M.Memory.at B.Book.kind B.Book.model self.new
             ≡ (step (product B.Book.kind) (state M.Memory.at B.Book.kind B.Book.model self.old)

@@ -2,3 +2,4 @@ pub mod Requests
 pub mod Texts
 pub mod Lines
 pub mod Told
+pub mod Listed

@@ -12,7 +12,7 @@ use Rattle.rules.specs.State.{Machine, warp_row_of}
 use Rattle.rules.specs.Steps.{step}
 use Rattle.listing.specs.Rows.{call_row}
 use Rattle.explain.specs.Before.{stamps_words, holder_words, line_met, line_rows, step_rows, verdict_met}
-use Rattle.explain.specs.Row.{after_rows, explained_row, meaning_row}
+use Rattle.explain.specs.Row.{after_rows, call_notes, explained_row, meaning_row}
 use Rattle.explain.specs.Waiting.{all_waiting, settled_rows, wait_rows}
 
 pub two_parts :
@@ -78,7 +78,7 @@ module _ {A E : Type 0} {k : Kind} where
       → pushed ≡ told → fourth ≡ third ++ pushed
       → IfOk r (λ t. string_bytes t ≡ fourth ++ after_rows m' waited)
       → IfOk r (λ t. string_bytes t ≡ text ++ explained_row place m call)
-  unfolding explained_row
+  unfolding explained_row call_notes
   row_parts r m m' place call answer stamp met line waited text first second third blank told pushed fourth
       em ea es ev el ew e1 e2 e3 e0 e4 e5 e6 h =
       let s = step (product k) m call in

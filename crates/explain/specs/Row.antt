@@ -28,9 +28,11 @@ module _ {k : Kind} where
   unfoldable pub after_rows : Machine k → List Request → List ℕ
   after_rows m waited = settled_rows m waited ++ wait_rows k m.book (all_waiting m)
 
-  -- The row of a call that is made of a machine, and why it is as it is.
-  unfoldable pub explained_row : ℕ → Machine k → Call → List ℕ
-  explained_row place m call =
+  -- All that stands under the row of a call that is made of a machine: what it means, what it met and what it left.
+  unfoldable pub call_notes : Machine k → Call → List ℕ
+  call_notes m call =
       let s = step (product k) m call in
-      call_row place call s.answer
-      ++ (meaning_row call s.answer ++ (before_rows m call s.answer ++ after_rows s.machine (all_waiting m)))
+      meaning_row call s.answer ++ (before_rows m call s.answer ++ after_rows s.machine (all_waiting m))
+
+  unfoldable pub explained_row : ℕ → Machine k → Call → List ℕ
+  explained_row place m call = call_row place call (step (product k) m call).answer ++ call_notes m call

@@ -5,7 +5,8 @@ ghost use Rattle.machine.specs.Meaning.{state};
 ghost use Rattle.machine.specs.Verdicts.{verdict_as};
 ghost use Rattle.rules.specs.Queue.{product};
 ghost use Rattle.rules.specs.Steps.{verdict_at};
-ghost use Rattle.explain.specs.Before.{verdict_met, line_met, lost_words, step_words, owner_words, stamps_words, holder_words, line_row, line_rows, step_told, step_row, step_rows};
+ghost use Rattle.explain.specs.Before.{verdict_met, line_met, lost_words, step_words, owner_words};
+ghost use Rattle.explain.specs.Before.{stamps_words, holder_words, line_row, line_rows, step_told, step_row, step_rows};
 
 use book::record::Book;
 use machine::state::Machine;

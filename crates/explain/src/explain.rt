@@ -3,6 +3,7 @@ ghost use Rattle.std.specs.Prelude.{◌≡◌, IfOk, string_bytes};
 ghost use Rattle.rules.specs.Making.{make};
 ghost use Rattle.machine.specs.Meaning.{state};
 ghost use Rattle.explain.specs.Explained.{told_from, said_told, explanation};
+ghost use Rattle.explain.specs.Listed.{ExplainsTheListing};
 
 use crate::end::{add_end, add_fault};
 use crate::row::add_row;
@@ -20,7 +21,8 @@ use std::alloc::{AllocError, Global};
 /// The explanation of a calls file: its listing, and under each row, indented, why it is as it is. Nothing is told only
 /// where memory is wanting.
 pub fn explain(heap: Global, bytes: &[u8]) -> Result<String, AllocError>
-    ensures { IfOk result (λ t. string_bytes t ≡ explanation bytes.now) }
+    ensures text { IfOk result (λ t. string_bytes t ≡ explanation bytes.now) }
+    ensures listing { ExplainsTheListing }
 {
     match read(heap, bytes) {
         Ok(file) => explain_file(heap, file),

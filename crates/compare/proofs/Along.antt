@@ -1,5 +1,6 @@
 -- How far two lists of rows are known to be the same.
-use Rattle.std.proofs.Common.{◌≡◌, ℕ, ◌+◌, List, [], ◌∷◌, ◌++◌, length, append_assoc, append-nil, length-append, Bool, true, false, eqb, refl, sym, ap, ◌∙◌, arith, Option}
+use Rattle.std.proofs.Common.{◌≡◌, ℕ, ◌+◌, List, [], ◌∷◌, ◌++◌, length, append_assoc, append-nil}
+use Rattle.std.proofs.Common.{length-append, Bool, true, false, eqb, refl, sym, ap, ◌∙◌, arith, Option}
 use Rattle.std.specs.Prelude.{◌≢◌}
 use Rattle.compare.specs.Rows.{rows_of, joined}
 use Rattle.std.proofs.lemmas.List.{append_cancel_left}

@@ -1,5 +1,6 @@
 -- What is told of a file's vectors is the explanation of what the file says.
-use Rattle.std.proofs.Common.{◌≡◌, ℕ, List, length, IfOk, Ok, Err, vec_items, string_bytes, Option, Result, ◌++◌, ◌≤◌, drop, ap, ◌∙◌, sym, subst}
+use Rattle.std.proofs.Common.{◌≡◌, ℕ, List, length, IfOk, Ok, Err, vec_items, string_bytes}
+use Rattle.std.proofs.Common.{Option, Result, ◌++◌, ◌≤◌, drop, ap, ◌∙◌, sym, subst}
 use Rattle.std.proofs.lemmas.List.{drop_all}
 use Rattle.std.specs.declared.string.String.{String}
 use Rattle.protocol.specs.declared.call.Call.{Call}

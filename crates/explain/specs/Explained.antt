@@ -1,5 +1,6 @@
 -- The explanation of a calls file, from its bytes.
-use Rattle.std.specs.Prelude.{ℕ, zero, suc, ◌+◌, List, [], ◌∷◌, ◌++◌, codes, decimal, length, Some, None, vec_items, Option, slice_index}
+use Rattle.std.specs.Prelude.{ℕ, zero, suc, ◌+◌, List, [], ◌∷◌, ◌++◌}
+use Rattle.std.specs.Prelude.{codes, decimal, length, Some, None, vec_items, Option, slice_index}
 use Rattle.protocol.specs.declared.call.Call.{Call}
 use Rattle.protocol.specs.declared.fault.Fault.{Fault}
 use Rattle.memory.specs.Lines.{Lines, word_lines}

@@ -1,5 +1,5 @@
 //! From the bytes of a calls file to what it says.
-ghost use Rattle.std.specs.Prelude.{◌≡◌};
+ghost use Rattle.std.specs.Prelude.{◌≡◌, ◌+◌};
 ghost use Rattle.calls.specs.Front.{Suffices, longest_file};
 ghost use Rattle.calls.specs.Reading.{Reads};
 
@@ -40,7 +40,8 @@ pub fn read(heap: Global, bytes: &[u8]) -> Result<CallsFile, ReadError>
 
 /// So many first bytes tell all that a file says, however long it is: one more than the longest file has.
 pub fn enough_bytes() -> usize
-    ensures { Suffices result }
+    ensures tells { Suffices result }
+    ensures one_more { result ≡ longest_file + 1 }
 {
     longest_file() + 1
 }

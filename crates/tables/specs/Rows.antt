@@ -1,6 +1,7 @@
 -- What stores, logs and rows mean.
-use Rattle.std.specs.Prelude.{ℕ, List, map, take, replicate, refl}
+use Rattle.std.specs.Prelude.{ℕ, cond, List, [], ◌∷◌, ◌++◌, map, take, fold, replicate, refl}
 use Rattle.std.proofs.Common.{lit<, lit≤}
+use Rattle.rules.specs.Lists.{has}
 use Rattle.rules.specs.State.{WarpRow}
 use Rattle.rules.specs.declared.state.Phase.TheVariants.{Idle}
 use Rattle.tables.specs.declared.row.Store.{Store}
@@ -21,6 +22,13 @@ log_of log = map pair_of log.stores.items
 -- The line of each store.
 abbrev pub lines_in : List (ℕ × ℕ) → List ℕ
 lines_in stores = map (λ (s : ℕ × ℕ). s.0) stores
+
+-- The first store of each line, in the order made.
+abbrev pub push_first : List (ℕ × ℕ) → ℕ × ℕ → List (ℕ × ℕ)
+push_first seen s = cond (has s.0 (lines_in seen)) seen (seen ++ s ∷ [])
+
+abbrev pub first_stores : List (ℕ × ℕ) → List (ℕ × ℕ)
+first_stores stores = fold push_first [] stores
 
 -- A row of the table is a row of the rules.
 abbrev pub warp_row_in : Row → WarpRow

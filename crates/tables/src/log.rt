@@ -4,7 +4,7 @@ ghost use Rattle.std.specs.Option.{option_map};
 ghost use Rattle.protocol.specs.Limits.{line_limit, log_limit};
 ghost use Rattle.rules.specs.Lists.{has, last_stored};
 ghost use Rattle.rules.specs.Ending.{logged_lines};
-ghost use Rattle.tables.specs.Rows.{pair_of, logged, log_of, lines_in};
+ghost use Rattle.tables.specs.Rows.{pair_of, logged, log_of, lines_in, first_stores};
 
 use crate::row::{Log, Store};
 use arrayvec::ArrayVec;
@@ -100,7 +100,8 @@ impl Log {
 
     /// The first store of each line that is stored to, in their order.
     pub fn firsts(&self) -> Log
-        ensures { lines_in (log_of result) ≡ logged_lines (log_of self.now) }
+        ensures stores { log_of result ≡ first_stores (log_of self.now) }
+        ensures lines { lines_in (log_of result) ≡ logged_lines (log_of self.now) }
     {
         Log::firsts_of(self.stores())
     }
@@ -108,7 +109,8 @@ impl Log {
     /// The first of some stores for each line that they are of, in their order.
     pub(crate) fn firsts_of(stores: &[Store]) -> Log
         requires { length stores.now ≤ log_limit }
-        ensures { lines_in (log_of result) ≡ logged_lines (map pair_of stores.now) }
+        ensures stores { log_of result ≡ first_stores (map pair_of stores.now) }
+        ensures lines { lines_in (log_of result) ≡ logged_lines (map pair_of stores.now) }
     {
         let mut firsts = Log::new();
         for store in stores {

@@ -6,7 +6,7 @@ ghost use Rattle.rules.specs.Queue.{request_of, requests_on, without, is_full, p
 ghost use Rattle.rules.specs.State.{idle_at, open_at, in_phase, logging, is_waiting};
 ghost use Rattle.rules.specs.declared.state.Phase.TheVariants.{Open, Waiting, Settled};
 ghost use Rattle.tables.specs.Lists.{place_at};
-ghost use Rattle.tables.specs.Rows.{log_of, lines_in, warp_row_in};
+ghost use Rattle.tables.specs.Rows.{log_of, lines_in, first_stores, warp_row_in};
 ghost use Rattle.tables.specs.Pages.{warp_rows, queued, warp_row, room_for, has_room};
 
 use crate::row::{Log, Row, Store};
@@ -45,7 +45,8 @@ impl Row {
 
     /// The first store of each line in the row's log, in their order.
     fn firsts(&self) -> Log
-        ensures { lines_in (log_of result) ≡ logged_lines (warp_row_in self.now).log }
+        ensures stores { log_of result ≡ first_stores (warp_row_in self.now).log }
+        ensures lines { lines_in (log_of result) ≡ logged_lines (warp_row_in self.now).log }
     {
         Log::firsts_of(&self.stores[..self.len])
     }
@@ -125,7 +126,8 @@ impl Tables {
 
     /// The first store of each line in a warp's log, in their order.
     pub fn firsts(&self, warp: u32) -> Log
-        ensures { lines_in (log_of result) ≡ logged_lines (warp_row self.now warp).log }
+        ensures stores { log_of result ≡ first_stores (warp_row self.now warp).log }
+        ensures lines { lines_in (log_of result) ≡ logged_lines (warp_row self.now warp).log }
     {
         self.row(warp).map_or_else(Log::new, Row::firsts)
     }

@@ -9,7 +9,7 @@ use Rattle.machine.proofs.state.Machine.end.Goals as goal
 pub returns : goal.returns
 returns g c =
     let m = state g.M.Memory.at g.B.Book.kind g.B.Book.model c.args.self.now in
-    let is = ap lines_in c.stores-stores.ensures.value ∙ c.firsts-firsts.ensures in
+    let is = ap lines_in c.stores-stores.ensures.value ∙ c.firsts-firsts.ensures.lines in
     ended_is m c.args.warp c.args.stamp
     (state g.M.Memory.at g.B.Book.kind g.B.Book.model c.release_all.new.self)
     (state g.M.Memory.at g.B.Book.kind g.B.Book.model c.wake_all.new.self)

@@ -5,3 +5,5 @@ mod Accessed
 mod Granted
 mod Stamps
 mod Runs
+mod Free
+mod Made

@@ -1,10 +1,11 @@
 -- What each way of serving a load or a store leaves is what the rules say.
-use Rattle.std.proofs.Common.{◌≡◌, ℕ, ◌<◌, true, false, List, length, set, sym, refl, ap, ◌∙◌, subst, ⊎_elim, arith}
+use Rattle.std.proofs.Common.{◌≡◌, ℕ, nat_lt, true, false, List, length, set, sym, refl, ap, ◌∙◌, subst, ⊎_elim, arith}
 use Rattle.std.proofs.lemmas.List.{get_or-set_same, set-set, set_past, get_or_past, length-set}
-use Rattle.std.proofs.lemmas.Bool.{cases_lt, ltb-true}
+use Rattle.std.proofs.lemmas.Bool.{cases_lt}
 use Rattle.protocol.specs.declared.answer.Outcome.{Outcome}
 use Rattle.protocol.specs.declared.answer.Outcome.TheVariants.{Value, Stored}
 use Rattle.memory.specs.Lines.{Lines}
+use Rattle.protocol.specs.Limits.{log_limit}
 use Rattle.book.specs.Meaning.{Kind, added}
 use Rattle.rules.specs.Queue.{without}
 use Rattle.rules.specs.State.{WarpRow, Machine, idle_at, in_phase, logging, is_waiting, with_book, warp_row_at, warp_row_of}
@@ -15,8 +16,6 @@ use Rattle.rules.specs.declared.state.Access.TheVariants.{Read, Write}
 use Rattle.rules.specs.declared.state.Phase.TheVariants.{Settled}
 use Rattle.rules.specs.declared.state.Request.{Request}
 use Rattle.tables.specs.Pages.{has_room}
-use Rattle.tables.specs.Rows.{pair_of}
-use Rattle.tables.specs.declared.row.Store.{Store}
 use Rattle.machine.specs.Moves.{own_value, reserving, comes_through}
 
 module _ {k : Kind} where
@@ -40,12 +39,6 @@ module _ {k : Kind} where
 
     abbrev settles_it : Outcome → List WarpRow → List WarpRow
     settles_it outcome ls = set ls w (in_phase (warp_row_at ls w) (Settled outcome))
-
-    -- A logged store, by its line and value.
-    pub log_warp_rows :
-        (ls warp_rows : List WarpRow) (s : Store) (value : ℕ) → pair_of s ≡ (line, value)
-        → warp_rows ≡ set ls w (logging (warp_row_at ls w) s.line s.value) → warp_rows ≡ logs_it value ls
-    log_warp_rows ls warp_rows s value is e = e ∙ ap (λ (p : ℕ × ℕ). set ls w (logging (warp_row_at ls w) p.0 p.1)) is
 
     pub read_served : (after : Machine k) (access : Access) → access ≡ Read → after ≡ reads m w line
         → after ≡ (serves m w line access).machine
@@ -172,12 +165,11 @@ module _ {k : Kind} where
         (cases_lt w (length ls))
 
     -- So it still has room for the store.
-    pub room_stays :
-        (before after : List WarpRow) (outcome : Outcome) → after ≡ settles_it outcome before → before ≡ m.warp_rows
-        → (access : Access) (value : ℕ) → access ≡ Write value → has_room (warp_row_of m w) access ≡ true
-        → length (warp_row_at after w).log < 32
-    room_stays before after outcome e same access value is room =
-        let long : length (warp_row_at after w).log ≡ length (warp_row_of m w).log =
-        ap length (settled_log before after outcome e ∙ ap (λ ls. (warp_row_at ls w).log) same) in
-        let less = ltb-true (length (warp_row_of m w).log) 32 (subst (λ a. has_room (warp_row_of m w) a ≡ true) is room) in
-        omega arith
+    -- A warp whose log had room for a store still has it where its log is as it was.
+    pub room_for_it :
+        (ls : List WarpRow) (access : Access) (value : ℕ) → (warp_row_at ls w).log ≡ (warp_row_of m w).log
+        → access ≡ Write value → has_room (warp_row_of m w) access ≡ true
+        → nat_lt (length (warp_row_at ls w).log) log_limit ≡ true
+    room_for_it ls access value same is room =
+        ap (λ (log : List (ℕ × ℕ)). nat_lt (length log) log_limit) same
+        ∙ subst (λ a. has_room (warp_row_of m w) a ≡ true) is room

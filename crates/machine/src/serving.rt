@@ -40,7 +40,7 @@ impl<M: Memory, B: Book> Machine<M, B> {
             }
             Access::Write { value } => {
                 self.reserve(warp, line);
-                self.tables.log_store(warp, Store::of(line, value));
+                self.tables.log_store(warp, Store { line, value });
                 Outcome::Stored
             }
         }
@@ -69,7 +69,7 @@ impl<M: Memory, B: Book> Machine<M, B> {
             }
             Access::Write { value } => {
                 let _ = self.book.add(line);
-                self.tables.log_store(warp, Store::of(line, value));
+                self.tables.log_store(warp, Store { line, value });
                 Outcome::Stored
             }
         }
@@ -95,7 +95,7 @@ impl<M: Memory, B: Book> Machine<M, B> {
             Access::Write { value } => {
                 self.reserve(warp, line);
                 self.tables.settle(warp, Outcome::Stored);
-                self.tables.log_store(warp, Store::of(line, value));
+                self.tables.log_store(warp, Store { line, value });
             }
         }
     }

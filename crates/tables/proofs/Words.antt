@@ -1,5 +1,6 @@
 -- The rules' words for lists, as the library's searches tell them.
-use Rattle.std.proofs.Common.{◌≡◌, ℕ, cond, ◌||◌, eqb, List, [], ◌∷◌, map, Some, refl, ap}
+use Rattle.std.proofs.Common.{◌≡◌, ◌<◌, ◌≤◌, ℕ, min, cond, ◌||◌, eqb, List, [], ◌∷◌, map, length, take, take_all, Some, ⊎_elim, refl, sym, ap, ◌∙◌, arith}
+use Rattle.std.proofs.lemmas.Bool.{cases_lt}
 use Rattle.std.specs.List.{find, list_any}
 use Rattle.rules.specs.Lists.{has}
 use Rattle.rules.specs.Queue.{request_of}
@@ -19,3 +20,15 @@ pub line_found :
     (stores : List Store) (n : ℕ) → list_any (λ (s : Store). eqb s.line n) stores ≡ has n (lines_in (map pair_of stores))
 line_found [] n = refl
 line_found (s ∷ rest) n = ap (λ b. eqb s.line n || b) (line_found rest n)
+
+-- The first so many of some numbers, where there may be fewer.
+pub first_ones : (ns : List ℕ) (n : ℕ) → n ≡ min (length ns) 32 → take n ns ≡ take 32 ns
+first_ones ns n e = ⊎_elim more few (cases_lt 32 (length ns))
+  where
+    more : 32 < length ns → take n ns ≡ take 32 ns
+    more m = let is : n ≡ 32 = omega arith in ap (λ k. take k ns) is
+
+    few : length ns ≤ 32 → take n ns ≡ take 32 ns
+    few f =
+        let is : n ≡ length ns = omega arith in
+        ap (λ k. take k ns) is ∙ take_all (length ns) ns (omega arith) ∙ sym (take_all 32 ns f)

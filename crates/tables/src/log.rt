@@ -10,16 +10,6 @@ use crate::row::{Log, Store};
 use arrayvec::ArrayVec;
 use protocol::limits::STORES;
 
-impl Store {
-    /// A store of a line that a book can number.
-    pub fn of(line: u32, value: u32) -> Store
-        requires { line < line_limit }
-        ensures { pair_of result ≡ (line, value) }
-    {
-        Store { line, value }
-    }
-}
-
 // By hand, since a derived one is refused beside a ghost field.
 impl Default for Store {
     ghost is_default = { λ store. pair_of store ≡ (0, 0) };

@@ -1,5 +1,5 @@
 //! New tables.
-ghost use Rattle.std.specs.Prelude.{◌≡◌, ◌≤◌, [], map, length};
+ghost use Rattle.std.specs.Prelude.{◌≡◌, [], map, take};
 ghost use Rattle.rules.specs.State.{idle_at};
 ghost use Rattle.tables.specs.Pages.{warp_rows, queued};
 
@@ -9,14 +9,13 @@ use crate::state::Tables;
 use arrayvec::ArrayVec;
 
 impl Tables {
-    /// Idle warps at their first stamps.
+    /// Idle warps at their first stamps, as many as there may be.
     pub fn new(stamps: &[u32]) -> Tables
-        requires { length stamps.now ≤ 32 }
-        ensures warp_rows { warp_rows result ≡ map idle_at stamps.now }
+        ensures warp_rows { warp_rows result ≡ map idle_at (take 32 stamps.now) }
         ensures queue { queued result ≡ [] }
     {
         let mut rows = ArrayVec::new();
-        for stamp in stamps {
+        for stamp in &stamps[..stamps.len().min(32)] {
             rows.push(Row::idle(u64::from(*stamp)));
         }
         Tables {

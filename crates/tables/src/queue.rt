@@ -61,7 +61,7 @@ impl Queue {
     }
 
     /// One request more, behind all others.
-    pub fn push(&mut self, request: Request)
+    pub(crate) fn push(&mut self, request: Request)
         requires { length (places self.old) < 32 }
         ensures { places self.new ≡ places self.old ++ request ∷ [] }
     {

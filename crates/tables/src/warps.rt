@@ -1,5 +1,5 @@
 //! What the warps are doing, and what changes it.
-ghost use Rattle.std.specs.Prelude.{◌≡◌, ◌<◌, true, false, [], ◌∷◌, ◌++◌, length, is_some, nat_lt, slice_set, MatchOption};
+ghost use Rattle.std.specs.Prelude.{◌≡◌, ◌<◌, true, false, cond, [], ◌∷◌, ◌++◌, length, is_some, nat_lt, slice_set, MatchOption};
 ghost use Rattle.protocol.specs.Limits.{line_room, queue_room, log_limit};
 ghost use Rattle.rules.specs.Ending.{logged_lines};
 ghost use Rattle.rules.specs.Queue.{request_of, requests_on, without, is_full, pending_at};
@@ -7,11 +7,12 @@ ghost use Rattle.rules.specs.State.{idle_at, open_at, in_phase, logging, is_wait
 ghost use Rattle.rules.specs.declared.state.Phase.TheVariants.{Open, Waiting, Settled};
 ghost use Rattle.tables.specs.Lists.{place_at};
 ghost use Rattle.tables.specs.Rows.{log_of, lines_in, first_stores, warp_row_in};
-ghost use Rattle.tables.specs.Pages.{warp_rows, queued, warp_row, room_for, has_room};
+ghost use Rattle.tables.specs.Pages.{warp_rows, queued, warp_row, room_for, has_room, unless_waiting, if_room, may_wait};
 
 use crate::row::{Log, Row, Store};
 use crate::state::Tables;
 use protocol::answer::Outcome;
+use protocol::limits::STORES;
 use rules::state::{Access, Phase, Request};
 
 // By hand, since a derived one is refused beside a ghost field.
@@ -175,7 +176,32 @@ impl Tables {
         Some(request.access)
     }
 
-    // That a warp does not wait holds between two calls only, so each call asks for it, and no type keeps it.
+    /// Whether a warp waits.
+    fn waits(&self, warp: u32) -> bool
+        ensures { result ≡ is_waiting (warp_row self.now warp).phase }
+    {
+        matches!(self.phase(warp), Phase::Waiting)
+    }
+
+    /// Whether a warp's log has room for what is to be done.
+    fn has_room(&self, warp: u32, access: Access) -> bool
+        ensures { result ≡ has_room (warp_row self.now warp) access }
+    {
+        match access {
+            Access::Read => true,
+            Access::Write { .. } => self.stored(warp) < STORES,
+        }
+    }
+
+    /// Whether a request may wait: its warp is there, does not wait yet and has room for what it asks for.
+    fn may_wait(&self, request: Request) -> bool
+        ensures { result ≡ may_wait (warp_rows self.now) request }
+    {
+        (request.warp as usize) < self.warps()
+            && !self.waits(request.warp)
+            && self.has_room(request.warp, request.access)
+    }
+
     /// Sets what a warp is doing and its stamp, with an empty log.
     fn start(&mut self, warp: u32, phase: Phase, stamp: u64)
         requires { is_waiting (warp_row self.old warp).phase ≡ false }
@@ -188,23 +214,27 @@ impl Tables {
         }
     }
 
-    /// Opens a transaction with an empty log.
+    /// Opens a transaction with an empty log. A warp that waits is left as it is.
     pub fn open(&mut self, warp: u32)
-        requires { is_waiting (warp_row self.old warp).phase ≡ false }
         ensures warp_rows { warp_rows self.new
-            ≡ slice_set (warp_rows self.old) warp (open_at (warp_row self.old warp).stamp) }
+            ≡ unless_waiting (warp_rows self.old) warp (open_at (warp_row self.old warp).stamp) }
         ensures queue { queued self.new ≡ queued self.old }
     {
+        if self.waits(warp) {
+            return;
+        }
         let stamp = self.stamp(warp);
         self.start(warp, Phase::Open, stamp);
     }
 
-    /// Ends a transaction: the warp is idle at a stamp.
+    /// Ends a transaction: the warp is idle at a stamp. A warp that waits is left as it is.
     pub fn rest(&mut self, warp: u32, stamp: u64)
-        requires { is_waiting (warp_row self.old warp).phase ≡ false }
-        ensures warp_rows { warp_rows self.new ≡ slice_set (warp_rows self.old) warp (idle_at stamp) }
+        ensures warp_rows { warp_rows self.new ≡ unless_waiting (warp_rows self.old) warp (idle_at stamp) }
         ensures queue { queued self.new ≡ queued self.old }
     {
+        if self.waits(warp) {
+            return;
+        }
         self.start(warp, Phase::Idle, stamp);
     }
 
@@ -220,18 +250,20 @@ impl Tables {
         }
     }
 
-    /// Lets a warp go on.
+    /// Lets a warp go on, unless it waits.
     pub fn resume(&mut self, warp: u32)
-        requires { is_waiting (warp_row self.old warp).phase ≡ false }
         ensures warp_rows { warp_rows self.new
-            ≡ slice_set (warp_rows self.old) warp (in_phase (warp_row self.old warp) Open) }
+            ≡ unless_waiting (warp_rows self.old) warp (in_phase (warp_row self.old warp) Open) }
         ensures queue { queued self.new ≡ queued self.old }
     {
+        if self.waits(warp) {
+            return;
+        }
         self.enter(warp, Phase::Open);
     }
 
     /// Logs a store.
-    pub fn log_store(&mut self, warp: u32, store: Store)
+    fn add_store(&mut self, warp: u32, store: Store)
         requires free { is_waiting (warp_row self.old warp).phase ≡ false }
         requires room { length (warp_row self.old warp).log < log_limit }
         ensures warp_rows { warp_rows self.new ≡ slice_set (warp_rows self.old) warp
@@ -243,8 +275,19 @@ impl Tables {
         }
     }
 
-    /// Lets a request wait, behind all others.
-    pub fn wait(&mut self, request: Request)
+    /// Logs a store. A warp that waits, or whose log is full, is left as it is.
+    pub fn log_store(&mut self, warp: u32, store: Store)
+        ensures warp_rows { warp_rows self.new ≡ if_room (warp_rows self.old) warp
+            (logging (warp_row self.old warp) store.line store.value) }
+        ensures queue { queued self.new ≡ queued self.old }
+    {
+        if !self.waits(warp) && self.stored(warp) < STORES {
+            self.add_store(warp, store);
+        }
+    }
+
+    /// A request joins the queue, behind all others, and its warp waits.
+    fn join_queue(&mut self, request: Request)
         requires inside { request.warp < length (warp_rows self.old) }
         requires free { is_waiting (warp_row self.old request.warp).phase ≡ false }
         requires room { has_room (warp_row self.old request.warp) request.access ≡ true }
@@ -254,6 +297,19 @@ impl Tables {
     {
         self.enter(request.warp, Phase::Waiting);
         self.queue.push(request);
+    }
+
+    /// Lets a request wait, behind all others, if it may.
+    pub fn wait(&mut self, request: Request)
+        ensures warp_rows { warp_rows self.new ≡ cond (may_wait (warp_rows self.old) request)
+            (slice_set (warp_rows self.old) request.warp (in_phase (warp_row self.old request.warp) Waiting))
+            (warp_rows self.old) }
+        ensures queue { queued self.new ≡ cond (may_wait (warp_rows self.old) request)
+            (queued self.old ++ request ∷ []) (queued self.old) }
+    {
+        if self.may_wait(request) {
+            self.join_queue(request);
+        }
     }
 
     /// A request comes out: it leaves the queue, and its warp has an outcome to fetch.

@@ -6,7 +6,7 @@ use Rattle.rules.specs.declared.state.Phase.TheVariants.{Waiting}
 use Rattle.tables.specs.Pages.{warp_rows, warp_row}
 use Rattle.tables.specs.Sound.{Sound}
 use Rattle.tables.proofs.Fitting.{asks, free, room_for, room_in_phase, request_may_come}
-use Rattle.tables.proofs.state.Tables.wait.Goals as goal
+use Rattle.tables.proofs.state.Tables.join_queue.Goals as goal
 
 pub enter-requires : goal.enter-requires
 enter-requires c = free c.args.self.now c.args.request.warp c.requires.free

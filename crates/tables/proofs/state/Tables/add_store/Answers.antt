@@ -3,7 +3,7 @@ use Rattle.std.proofs.Common.{◌<◌, length, ap, ◌∙◌, rules}
 use Rattle.rules.specs.State.{WarpRow, logging}
 use Rattle.tables.proofs.Fitting.{free, row_set}
 use Rattle.tables.proofs.WarpRows.{warp_row_here, warp_rows_set}
-use Rattle.tables.proofs.state.Tables.log_store.Goals as goal
+use Rattle.tables.proofs.state.Tables.add_store.Goals as goal
 
 pub invariant_of-self : goal.invariant_of-self
 invariant_of-self c =

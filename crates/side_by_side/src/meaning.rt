@@ -85,3 +85,76 @@ pub fn sound(look: &Look, latest: u32) -> bool {
     }
     told.owner.is_some() && told.written > 0 && told.slot
 }
+
+#[cfg(test)]
+mod tests {
+    use super::*;
+    use book::record::Told;
+
+    // What is told of a line with a write stamp of 4 and a read mark of (9, 0).
+    fn look(line: u32, stores: u32, owner: Option<u32>) -> Look {
+        Look {
+            line,
+            told: Told {
+                written: 4,
+                read: (9, 0),
+                owner,
+                slot: true,
+            },
+            stores,
+        }
+    }
+
+    fn written(look: Look, written: u32) -> Look {
+        Look {
+            told: Told {
+                written,
+                ..look.told
+            },
+            ..look
+        }
+    }
+
+    #[test]
+    fn changes_that_no_call_may_make(rt: HostRuntime) {
+        let (free, held) = (look(7, 0, None), look(7, 1, Some(2)));
+        let add = BookCall::Add { line: 7 };
+        let note = BookCall::Note {
+            line: 7,
+            time: (5, 1),
+        };
+        let refused = Made {
+            call: add,
+            granted: false,
+        };
+        let added = Made {
+            call: add,
+            granted: true,
+        };
+        let noted = Made {
+            call: note,
+            granted: true,
+        };
+        assert!(rt; refused.kept(&held, &held) && !refused.kept(&held, &look(7, 2, Some(2))));
+        assert!(rt; noted.kept(&free, &free) && !noted.kept(&free, &written(free, 3)));
+        assert!(rt; added.kept(&look(8, 0, None), &look(8, 0, None)));
+        assert!(rt; !added.kept(&look(8, 0, None), &look(8, 1, Some(2))));
+        assert!(rt; added.bounded(9, 9) && !added.bounded(9, 10));
+    }
+
+    #[test]
+    fn what_no_book_may_tell(rt: HostRuntime) {
+        let free = look(7, 0, None);
+        let full = Look {
+            told: Told {
+                slot: false,
+                ..free.told
+            },
+            ..free
+        };
+        assert!(rt; sound(&free, 9) && !sound(&free, 8) && !sound(&written(free, 10), 9));
+        assert!(rt; !sound(&look(7, 0, Some(2)), 9) && !sound(&look(7, 1, None), 9));
+        assert!(rt; roomy(&[free, free], 16) && !roomy(&[free, full], 16));
+        assert!(rt; roomy(&[full, look(8, 1, Some(2))], 1));
+    }
+}

@@ -157,4 +157,26 @@ mod tests {
             assert!(rt; storm(seed, 400).fine);
         }
     }
+
+    #[test]
+    fn one_line_of_many_is_looked_at(rt: HostRuntime) {
+        let before = Snapshot::of(&ExactBook::new());
+        let mut after = before;
+        after.looks[57].told.owner = Some(3);
+        let made = Made {
+            call: BookCall::Release { line: 37 },
+            granted: true,
+        };
+        assert!(rt; step_kept(made, 4096, &before, &before));
+        assert!(rt; !step_kept(made, 4096, &before, &after));
+    }
+
+    #[test]
+    fn one_earlier_line_of_many_is_found(rt: HostRuntime) {
+        let line = Look::at(&ExactBook::new(), 0);
+        let mut later = line;
+        later.told.written = 1;
+        assert_eq!(rt; later_lines(&[line, line], &[line, later]), Some(1));
+        assert_eq!(rt; later_lines(&[line, later], &[later, line]), None);
+    }
 }

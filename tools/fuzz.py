@@ -1,10 +1,11 @@
 #!/usr/bin/env python3
 """Throws random and damaged files at the program golden: python3 tools/fuzz.py [COUNT [SEED]]
 
-Each file's listing has to be the one of tools/model.py, with status 0 and nothing on standard error. Then bad weather: standard
-output closed or full, standard input closed or a folder, little memory; there it must end with status 1, one sentence on
-standard error and no listing, or with status 0 and the whole listing. The files follow from the seed alone; no network is
-used, every run has ten seconds, and the first failure ends the script with status 1 and leaves its file in /tmp.
+Each file's listing has to be the one of tools/model.py, with status 0 and nothing on standard error. Then what else the program
+can be asked, by words after its name, and wrong words. Then bad weather: standard output closed or full, standard input closed
+or a folder, little memory; there it must end with status 1, one sentence on standard error and no listing, or with status 0
+and the whole listing. The files follow from the seed alone; no network is used, every run has ten seconds, and the first failure
+ends the script with status 1 and leaves its file in /tmp.
 """
 
 import os
@@ -13,6 +14,7 @@ import resource
 import struct
 import subprocess
 import sys
+import tempfile
 
 from model import LINES, ROWS, listing
 
@@ -77,6 +79,13 @@ def too_long(rng):
     """Every warp, line and row that a file may have, and a little more or less."""
     head = b"GTM\x00\x01" + rng.choice((b"E", b"C")) + struct.pack(">BH", 32, LINES) + bytes(4 * (32 + LINES))
     return head + rows(rng, 32, rng.choice((8, LINES)), ROWS + rng.choice((-1, 0, 1))) + noise(rng)[: rng.randrange(9)]
+
+
+def longest(more):
+    """The longest file, by so many bytes longer or, below nought, shorter."""
+    head = b"GTM\x00\x01E" + struct.pack(">BH", 32, LINES) + bytes(4 * (32 + LINES))
+    data = head + (b"B" + bytes(7)) * (ROWS + 1)
+    return data[: len(head) + 8 * ROWS + more]
 
 
 MAKERS = [sound_file] * 6 + [noise, marked_noise, cut, cut, spoilt, spoilt, spoilt, lengthened]
@@ -147,6 +156,37 @@ def bad_weather(seed):
     print(f"bad weather: 4 streams refused, {short} runs wanted memory and said so")
 
 
+def asked(*words):
+    return subprocess.run([PROGRAM, *words], stdin=subprocess.DEVNULL, capture_output=True, timeout=10)
+
+
+def other_words(seed):
+    """The program with words after its name: a file, a comparison, an explanation, and words that ask for nothing."""
+    data = made(seed, 99)
+    rows = listing(data).encode()
+    with tempfile.TemporaryDirectory() as room:
+        calls, ours, theirs = (f"{room}/{name}" for name in ("calls", "ours", "theirs"))
+        for place, text in ((calls, data), (ours, rows), (theirs, b"x" + rows)):
+            with open(place, "wb") as file:
+                file.write(text)
+        told = asked("--explain", calls)
+        shown = b"".join(line for line in told.stdout.splitlines(True) if not line.startswith(b" "))
+        if asked(calls).stdout != rows or told.stdout == rows or shown != rows or told.returncode:
+            fail("a file that is named, or its explanation", data, told)
+        for place, status, first in ((ours, 0, b"match: "), (theirs, 1, b"row 1 differs\n")):
+            told = asked("--compare", place, calls)
+            if told.returncode != status or not told.stdout.startswith(first) or told.stderr:
+                fail("a comparison", data, told)
+        none = f"{room}/none"
+        for words in (["--help", calls], ["--compare"], ["--compare", "-", calls], ["-x"], [calls, calls], [room], [none]):
+            told = asked(*words)
+            if not one_sentence(told) or told.stdout:
+                fail(f"the words {words}", data, told)
+    if any(it.returncode or it.stderr or not it.stdout for it in (asked("--help"), asked("--version"))):
+        fail("--help or --version", data)
+    print("a file by its name, its explanation and two comparisons are as they must be, and 7 wrong words are refused")
+
+
 def main():
     count = int(sys.argv[1]) if len(sys.argv) > 1 else 20_000
     seed = int(sys.argv[2]) if len(sys.argv) > 2 else 1
@@ -154,7 +194,10 @@ def main():
         sys.exit("fuzz: build the program first, by ./golden < examples/two_warps.gtm")
     for number in range(count):
         check(made(seed, number))
-    print(f"{count} files of seed {seed}: every listing is the model's")
+    for more in (-1, 0, 1, 2):
+        check(longest(more))
+    print(f"{count} files of seed {seed}, and those near the longest: every listing is the model's")
+    other_words(seed)
     bad_weather(seed)
 
 

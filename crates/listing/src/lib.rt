@@ -2,6 +2,7 @@
 #![tactic(auto)]
 
 pub mod listing;
+mod pages;
 mod row;
 #[cfg(test)]
 mod tests;

@@ -1,10 +1,11 @@
 //! From the bytes of a calls file to the text of its listing.
-ghost use Rattle.std.specs.Prelude.{◌≡◌, ◌++◌, IfOk, OnOk, string_bytes};
+ghost use Rattle.std.specs.Prelude.{◌≡◌, IfOk, string_bytes};
 ghost use Rattle.machine.specs.Running.{run_of};
 ghost use Rattle.listing.specs.Rows.{bad_row};
-ghost use Rattle.listing.specs.Listing.{call_rows, line_row, mem_rows, run_text, said_text, listing_text};
+ghost use Rattle.listing.specs.Listing.{run_text, said_text, listing_text};
 
-use crate::text::{add_bad_row, add_call_row, add_mem_row};
+use crate::pages::{add_call_rows, add_mem_rows};
+use crate::text::add_bad_row;
 use book::exact::ExactBook;
 use book::record::Book;
 use calls::file::{BookKind, CallsFile, ReadError};
@@ -14,10 +15,12 @@ use machine::running::run;
 use machine::state::Machine;
 use memory::store::Memory;
 use memory::word::WordMemory;
-use protocol::answer::Answer;
 use protocol::call::Call;
 use protocol::fault::Fault;
 use std::alloc::{AllocError, Global};
+
+/// Few rows are longer.
+const USUAL_ROW: usize = 32;
 
 /// The listing of a calls file. Nothing is listed only where memory is wanting.
 pub fn list(heap: Global, bytes: &[u8]) -> Result<String, AllocError>
@@ -89,52 +92,18 @@ impl Script<'_> {
     {
         let ran = run(heap, memory, book, self.stamps, self.calls)?;
         let mut text = String::new(heap);
+        // Where there is no room for all at once, the text grows as it must.
+        let _ = text.reserve(
+            self.calls
+                .len()
+                .saturating_add(self.lines as usize)
+                .saturating_mul(USUAL_ROW),
+        );
         add_call_rows(&mut text, self.calls, ran.answers.as_slice())?;
         match self.fault {
             Some(fault) => add_bad_row(&mut text, fault)?,
             None => add_mem_rows(&mut text, &ran.machine, self.lines)?,
         }
         Ok(text)
-    }
-}
-
-// Adds a row for each call and its answer. The calls are the caller's and the answers the run's, so they come as two
-// slices.
-fn add_call_rows(text: &mut String, calls: &[Call], answers: &[Answer]) -> Result<(), AllocError>
-    ensures { OnOk result (string_bytes text.new ≡ string_bytes text.old ++ call_rows 1 calls.now answers.now) }
-{
-    for (i, (call, answer)) in calls.iter().zip(answers).enumerate() {
-        add_call_row(text, i as u64 + 1, *call, *answer)?;
-    }
-    Ok(())
-}
-
-// Adds a row for each line below a limit that the machine's memory has.
-fn add_mem_rows<M: Memory, B: Book>(
-    text: &mut String,
-    machine: &Machine<M, B>,
-    limit: u32,
-) -> Result<(), AllocError>
-    ensures { OnOk result (string_bytes text.new
-        ≡ string_bytes text.old ++ mem_rows (M.Memory.at machine.now.memory) limit) }
-{
-    for line in 0..limit {
-        add_line_row(text, machine, line)?;
-    }
-    Ok(())
-}
-
-// Adds the row of a line, if the memory has it.
-fn add_line_row<M: Memory, B: Book>(
-    text: &mut String,
-    machine: &Machine<M, B>,
-    line: u32,
-) -> Result<(), AllocError>
-    ensures { OnOk result (string_bytes text.new
-        ≡ string_bytes text.old ++ line_row line (M.Memory.at machine.now.memory line)) }
-{
-    match machine.value(line) {
-        Ok(value) => add_mem_row(text, line, value),
-        Err(_) => Ok(()),
     }
 }

@@ -1,6 +1,8 @@
 //! Turns a calls file into its listing, explains it, and compares other listings with it.
 #![tactic(auto)]
 
+ghost use Rattle.std.specs.Io.{ReadsAtMost};
+
 use anyhow::Context;
 use calls::reader::enough_bytes;
 use command::{Command, Source, read_command};
@@ -19,6 +21,10 @@ const RULES_LEVEL: u32 = 1;
 
 /// The Rattle that everything here is proved with, as its command `rt version` prints it.
 const KIT: &str = "rattle-kit-13f logic dac8208d650f15bf";
+
+/// A read asks for so many bytes. Room for them is filled with zeros first: up to so many, C's library does that by wide
+/// stores, and for more by an instruction that repeats for each byte.
+const READ_BYTES: usize = 2048;
 
 /// No listing is as long.
 const ENOUGH_OF_A_LISTING: u64 = 1 << 20;
@@ -97,9 +103,37 @@ fn open_front(rt: &HostRuntime, path: &str, limit: u64) -> io::Result<Vec<u8>> {
 }
 
 fn read_front<R: Read + Drop>(rt: &HostRuntime, input: R, limit: u64) -> io::Result<Vec<u8>> {
+    let mut input = input.take(limit);
     let mut bytes = Vec::new(rt.alloc());
-    input.take(limit).read_to_end(&mut bytes)?;
+    for _ in 0..=limit {
+        let count = read_more(&mut input, &mut bytes)?;
+        if count == 0 {
+            break;
+        }
+    }
     Ok(bytes)
+}
+
+// Reads some bytes after those that are there, and returns how many: none at the end of the input.
+fn read_more<R: Read>(input: &mut R, bytes: &mut Vec<u8>) -> io::Result<usize> {
+    let filled = bytes.len();
+    bytes.resize(filled + READ_BYTES, 0)?;
+    let count = read_retrying(input, &mut bytes[filled..])?;
+    bytes.truncate(filled + count);
+    Ok(count)
+}
+
+// One read. A read that a signal interrupts is tried again.
+fn read_retrying<R: Read>(input: &mut R, room: &mut [u8]) -> io::Result<usize>
+    ensures { ReadsAtMost result room.new }
+{
+    for _ in 0..u64::MAX {
+        match input.read(room) {
+            Err(error) if error.kind() == io::ErrorKind::Interrupted => {}
+            done => return done,
+        }
+    }
+    Err(io::ErrorKind::TimedOut.into())
 }
 
 fn write_text(rt: &HostRuntime, text: &str) -> anyhow::Result<ExitCode> {

@@ -1,15 +1,17 @@
 -- What has been read and what is still to be read are the whole: kept by a row more, and whole at the last row.
-use Rattle.std.proofs.Common.{◌≡◌, ℕ, suc, true, ◌+◌, ◌-◌, ◌*◌, ◌<◌, ◌≤◌, min, leb, List, [], ◌∷◌, ◌++◌, length, drop, get_or, Some, None, Ok, Err, Option, Result, sym, refl, ap, ◌∙◌, ⊎_elim, append_assoc, append-nil, zero-add, arith, length-drop, get_or-drop, drop-drop}
-use Rattle.std.proofs.lemmas.List.{drop_at, get_or_append_left}
+use Rattle.std.proofs.Common.{◌≡◌, ℕ, zero, suc, ◌+◌, ◌-◌, ◌*◌, ◌/◌, ◌<◌, ◌≤◌, min, cond, leb, ltb, List, [], ◌∷◌, ◌++◌, length, take, drop, get_or, Some, None, Ok, Err, Option, Result, sym, refl, ap, ◌∙◌, ap₂, ◌⊎◌, ⊎_elim, append_assoc, append-nil, arith, length-take, length-drop, get_or-take, drop-drop}
+use Rattle.std.specs.Simd.{first_chunks}
+use Rattle.std.specs.List.{slice_range}
+use Rattle.std.proofs.lemmas.List.{take_all, drop_all}
 use Rattle.std.proofs.lemmas.Bool.{cases_lt, le-leb, lt-leb, lt-ltb, le-ltb}
-use Rattle.std.specs.Option.{option_map, ok_or}
+use Rattle.std.specs.Option.{option_map, ok_or, unwrap_or, MatchOption}
 use Rattle.std.specs.Result.{result_map_both}
 use Rattle.protocol.specs.Faults.{fault_in_file}
 use Rattle.protocol.specs.declared.call.Call.{Call}
 use Rattle.protocol.specs.declared.fault.Fault.{Fault}
-use Rattle.protocol.specs.declared.fault.Refusal.TheVariants.{TooManyRows, BadLetter}
+use Rattle.protocol.specs.declared.fault.Refusal.TheVariants.{CutShort, TooManyRows, BadLetter}
 use Rattle.calls.specs.Format.{Rows, rows_from, row_before, row_at, row_of, row_call, no_more, unless}
-use Rattle.calls.proofs.SameBytes.{SameBytes, same_call}
+use Rattle.calls.proofs.SameBytes.{same_in_part, same_call}
 
 -- Some calls before some rows.
 abbrev pub calls_before : List Call → Rows → Rows
@@ -23,71 +25,90 @@ standing_call : (call : Option Call) (fault : Fault) → standing (ok_or call fa
 standing_call None fault = refl
 standing_call (Some call) fault = refl
 
--- What is left begins with a row, or with the last bytes of the file.
-module _ (bytes : List ℕ) (place : ℕ) (row more : List ℕ)
-    (left : drop place bytes ≡ row ++ more) (long : length row ≡ min 8 (length (drop place bytes)))
-    (some : 0 < length (drop place bytes)) where
-  left_long : length (drop place bytes) ≡ length bytes - place
-  left_long = length-drop place bytes
+-- What a file has from a place on is nothing past its end.
+pub rest_is :
+    {R : Type 0} (now : R → List ℕ) (bytes : List ℕ) (start : ℕ) (none : R) → now none ≡ [] → (found : Option R)
+    → MatchOption found ((length bytes < start) ⊎ (length bytes < length bytes))
+    (λ x. (start ≤ length bytes) × (length bytes ≤ length bytes) × (now x ≡ slice_range bytes start (length bytes))
+    × (length (now x) + start ≡ length bytes))
+    → now (unwrap_or found none) ≡ drop start bytes
+rest_is now bytes start none nothing None past =
+    nothing ∙ sym (drop_all start bytes (⊎_elim (λ h. omega arith) (λ h. omega arith) past))
+rest_is now bytes start none nothing (Some rest) within =
+    within.2 ∙ take_all (length bytes - start) (drop start bytes) (omega (arith, length-drop start bytes))
 
-  same_row : (n : ℕ) → n ≤ length row → SameBytes row bytes 0 place n
-  same_row n h =
-      record {
-        at = λ k below. simp zero-add
-            (sym (get_or_append_left row more 0 k (omega arith)) ∙ ap (λ xs. get_or xs k 0) (sym left)
-            ∙ get_or-drop place bytes k 0);
-      }
+-- Some bytes by eights: there are so many, and each is the part from its place on.
+eights_many : (count : ℕ) (bytes : List ℕ) → length (first_chunks 8 count bytes) ≡ count
+eights_many zero bytes = refl
+eights_many (suc count) bytes = ap suc (eights_many count (drop 8 bytes))
 
-  stands : standing (row_of row place) ≡ row_at bytes place
-  stands =
-      let e = left_long in
-      let begun = lt-leb (length bytes) place (omega arith) in
-      ⊎_elim
-      (λ cut. simp (begun, lt-ltb (length row) 8 cut, lt-ltb (length bytes) (place + 8) (omega arith)))
-      (λ whole.
-      simp (begun, le-ltb (length row) 8 whole, le-ltb (length bytes) (place + 8) (omega arith))
-      (ap (λ call. standing (ok_or call (fault_in_file BadLetter place)))
-      (same_call 0 place 8 (same_row 8 whole) (omega arith))
-      ∙ standing_call (row_call bytes place) _))
-      (cases_lt (length row) 8)
+row_in :
+    (count i : ℕ) (bytes : List ℕ) → i < count
+    → get_or (first_chunks 8 count bytes) i [] ≡ take 8 (drop (8 * i) bytes)
+row_in zero i bytes h = absurd (omega arith)
+row_in (suc count) zero bytes h = refl
+row_in (suc count) (suc i) bytes h =
+    let e : 8 + 8 * i ≡ 8 * suc i = omega arith in
+    row_in count i (drop 8 bytes) (omega arith)
+    ∙ ap (take 8) (drop-drop (8 * i) 8 bytes ∙ ap (λ n. drop n bytes) e)
 
-  whole_row : (call : Call) → Ok call ≡ row_of row place → length row ≡ 8
-  whole_row call is =
-      ⊎_elim
-      (λ cut. let e = simp (lt-ltb (length row) 8 cut) at is in cc)
-      (λ whole. omega arith)
-      (cases_lt (length row) 8)
+-- The bytes of a whole row say what stands at its place.
+row_stands :
+    (bytes : List ℕ) (place : ℕ) → place + 8 ≤ length bytes → (row : List ℕ) → row ≡ take 8 (drop place bytes)
+    → standing (row_of row place) ≡ row_at bytes place
+row_stands bytes place fits row is =
+    let begun = lt-leb (length bytes) place (omega arith) in
+    let whole = le-ltb (length bytes) (place + 8) fits in
+    simp (begun, whole)
+    (ap (λ call. standing (ok_or call (fault_in_file BadLetter place)))
+    (ap (λ r. row_call r 0) is ∙ same_call 0 place 8 (same_in_part bytes place 8 8 (omega arith)) (omega arith))
+    ∙ standing_call (row_call bytes place) _)
 
-  after : (call : Call) → Ok call ≡ row_of row place → more ≡ drop (place + 8) bytes
-  after call is =
-      sym (drop_at row more 8 (whole_row call is)) ∙ ap (drop 8) (sym left) ∙ drop-drop 8 place bytes
+-- The whole rows that stand from a start on, as far as they may come.
+abbrev pub whole_rows : List ℕ → ℕ → List (List ℕ)
+whole_rows bytes start =
+    take (min (length (drop start bytes) / 8) 4096)
+    (first_chunks 8 (length (drop start bytes) / 8) (drop start bytes))
 
--- The same of the i-th row from a start on, as it comes from what is left by pieces of a size.
-module _ (bytes : List ℕ) (start i count size : ℕ) (row more rest : List ℕ)
-    (number : i ≡ count) (left : rest ≡ drop (start + 8 * count) bytes) (by : size ≡ 8) (split : rest ≡ row ++ more)
-    (long : length row ≡ min size (length rest)) (some : 0 < length rest) where
-  abbrev place : ℕ
-  place = start + 8 * count
+pub whole_rows_are :
+    (bytes : List ℕ) (start : ℕ) (rest : List ℕ) → rest ≡ drop start bytes → (rows : List (List ℕ))
+    → rows ≡ first_chunks 8 (length rest / 8) rest → length rows ≡ length rest / 8 → (most : ℕ)
+    → most ≡ min (length rows) 4096 → take most rows ≡ whole_rows bytes start
+whole_rows_are bytes start rest is rows eights many most few =
+    ap₂ take (few ∙ ap (λ n. min n 4096) many) eights
+    ∙ ap (λ xs. take (min (length xs / 8) 4096) (first_chunks 8 (length xs / 8) xs)) is
 
-  long_here : length row ≡ min 8 (length (drop place bytes))
-  long_here = cc (ap length left)
+module _ (bytes : List ℕ) (start : ℕ) (rows : List (List ℕ)) (are : rows ≡ whole_rows bytes start) where
+  abbrev here : List ℕ
+  here = drop start bytes
 
-  some_here : 0 < length (drop place bytes)
-  some_here = rw (← (ap length left)) some
+  pub rows_many : length rows ≡ min (length here / 8) 4096
+  rows_many =
+      ap length are ∙ length-take (min (length here / 8) 4096) (first_chunks 8 (length here / 8) here)
+      ∙ omega (arith, eights_many (length here / 8) here)
 
-  pub row_stands : standing (row_of row (start + 8 * i)) ≡ row_at bytes (start + 8 * count)
-  row_stands =
-      ap (λ k. standing (row_of row (start + 8 * k))) number
-      ∙ stands bytes place row more (sym left ∙ split) long_here some_here
+  pub row_fits : (i : ℕ) → i < length rows → (i < 4096) × (start + 8 * i + 8 ≤ length bytes)
+  row_fits i inside =
+      let many = rows_many in
+      let long = length-drop start bytes in
+      (omega arith, omega arith)
 
-  pub rest_after :
-      (next : ℕ) → next ≡ count + 1 → (call : Call) → Ok call ≡ row_of row (start + 8 * i)
-      → more ≡ drop (start + 8 * next) bytes
-  rest_after next e call is =
-      let place-next : place + 8 ≡ start + 8 * next = omega arith in
-      after bytes place row more (sym left ∙ split) long_here some_here call
-      (is ∙ ap (λ k. row_of row (start + 8 * k)) number)
-      ∙ ap (λ p. drop p bytes) place-next
+  pub file_ends : length rows < 4096 → length bytes < start + 8 * length rows + 8
+  file_ends less =
+      let many = rows_many in
+      let long = length-drop start bytes in
+      omega arith
+
+  pub these_stand :
+      (i : ℕ) → i < length rows → (n : ℕ) → n ≡ i
+      → standing (row_of (get_or rows i []) (start + 8 * n)) ≡ row_at bytes (start + 8 * i)
+  these_stand i inside n e =
+      let many = rows_many in
+      ap (λ k. standing (row_of (get_or rows i []) (start + 8 * k))) e
+      ∙ row_stands bytes (start + 8 * i) ((row_fits i inside).1) (get_or rows i [])
+      (ap (λ xs. get_or xs i []) are
+      ∙ get_or-take (min (length here / 8) 4096) (first_chunks 8 (length here / 8) here) i [] (omega arith)
+      ∙ row_in (length here / 8) i here (omega arith) ∙ ap (take 8) (drop-drop (8 * i) start bytes))
 
 -- A fault, or none, with no rows after it.
 last_found : (calls : List Call) (found : Option Fault) (rows : Rows) → calls_before calls (no_more found) ≡ rows
@@ -119,34 +140,31 @@ module _ (bytes : List ℕ) (place n : ℕ) (calls : List Call) (rows : Rows)
       → (calls ≡ rows.calls) × (Some found ≡ rows.fault)
   at_fault m next found is = last_found calls (Some found) rows (with_row m next (Err found) is)
 
-  -- No row is left: those that may come are read, or the file ends.
+  -- No whole row is left: those that may come are read, or the file ends, maybe in a row.
   pub at_last :
-      (last : ℕ) → place + 8 * n ≡ last → (0 < n → length (drop place bytes) ≡ 0)
-      → (calls ≡ rows.calls) × (unless (leb (length bytes) last) TooManyRows last ≡ rows.fault)
+      (read last : ℕ) → n + read ≡ 4096 → place ≡ last → (0 < n → length bytes < last + 8)
+      → (calls ≡ rows.calls)
+      × (unless (leb (length bytes) last) (cond (ltb read 4096) CutShort TooManyRows) last ≡ rows.fault)
   unfolding rows_from
-  at_last last is none =
+  at_last read last left is short =
+      let here : calls_before calls (rows_from bytes n last) ≡ rows =
+      ap (λ p. calls_before calls (rows_from bytes n p)) (sym is) ∙ whole in
       ⊎_elim
       (λ some.
-      let e = length-drop place bytes in
-      let z = none some in
-      let over = le-leb (length bytes) place (omega arith) in
-      let past = le-leb (length bytes) last (omega arith) in
       let m : n - 1 + 1 ≡ n = omega arith in
-      simp past (last_found calls None rows (with_row (n - 1) m (Ok None) (simp over))))
+      let few = lt-ltb read 4096 (omega arith) in
+      let cut = lt-ltb (length bytes) (last + 8) (short some) in
+      ⊎_elim
+      (λ begun.
+      let more = lt-leb (length bytes) last begun in
+      let found = fault_in_file CutShort last in
+      simp (few, more) (last_found calls (Some found) rows (with_row (n - 1) m (Err found) (simp (more, cut, is)))))
+      (λ ended.
+      let over = le-leb (length bytes) last ended in
+      simp over (last_found calls None rows (with_row (n - 1) m (Ok None) (simp (over, is)))))
+      (cases_lt last (length bytes)))
       (λ all.
       let z : n ≡ 0 = omega arith in
-      let p : place ≡ last = omega arith in
-      last_found calls _ rows
-      (ap (λ k. calls_before calls (no_more (unless (leb (length bytes) k) TooManyRows k))) (sym p)
-      ∙ ap (λ k. calls_before calls (rows_from bytes k place)) (sym z) ∙ whole))
+      let full = le-ltb read 4096 (omega arith) in
+      simp full (last_found calls _ rows (ap (λ k. calls_before calls (rows_from bytes k last)) (sym z) ∙ here)))
       (cases_lt 0 n)
-
--- Past the end of the file no row stands.
-pub none_past_end :
-    (bytes : List ℕ) (start n : ℕ) → length bytes ≤ start
-    → ([] ≡ (rows_from bytes n start).calls) × (None ≡ (rows_from bytes n start).fault)
-none_past_end bytes start n past =
-    let none : length (drop start bytes) ≡ 0 = length-drop start bytes ∙ omega arith in
-    let p = at_last bytes start n [] (rows_from bytes n start) refl (start + 8 * n) refl (λ _. none) in
-    let over : leb (length bytes) (start + 8 * n) ≡ true = le-leb (length bytes) (start + 8 * n) (omega arith) in
-    (p.0, ap (λ b. unless b TooManyRows (start + 8 * n)) (sym over) ∙ p.1)

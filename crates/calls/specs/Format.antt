@@ -89,11 +89,9 @@ row_call bytes place =
     (λ op. record { warp = slice_index bytes (place + 1); op = op })
     (op_named (slice_index bytes place) (two_bytes bytes (place + 2)) (four_bytes bytes (place + 4)))
 
--- The call that the bytes of a row say. A row is whole or it is none, whatever its letter; a fault tells its place.
+-- What the bytes of a whole row say; a fault tells the place where the row begins.
 abbrev pub row_of : List ℕ → ℕ → Result Call Fault
-row_of row place =
-    cond (nat_lt (length row) 8) (Err (fault_in_file CutShort place))
-    (ok_or (row_call row 0) (fault_in_file BadLetter place))
+row_of row place = ok_or (row_call row 0) (fault_in_file BadLetter place)
 
 -- What stands where a row may begin: nothing at the end of the file, or else a row.
 abbrev pub row_at : List ℕ → ℕ → Result (Option Call) Fault

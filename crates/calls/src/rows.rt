@@ -1,7 +1,7 @@
 //! The rows: one call each.
-ghost use Rattle.std.specs.Prelude.{◌≡◌, ◌^◌, ◌<◌, ◌≤◌, length, IfOk, nat_le};
+ghost use Rattle.std.specs.Prelude.{◌≡◌, ◌^◌, ◌<◌, ◌≤◌, length, cond, IfOk, nat_le, nat_lt};
 ghost use Rattle.calls.specs.Format.{row_of, rows_from, row_limit, unless};
-ghost use Rattle.protocol.specs.declared.fault.Refusal.TheVariants.{TooManyRows};
+ghost use Rattle.protocol.specs.declared.fault.Refusal.TheVariants.{CutShort, TooManyRows};
 ghost use Rattle.calls.specs.RowReading.{Holds};
 
 use protocol::call::{Call, Op};
@@ -22,12 +22,10 @@ pub struct RowsRead {
 }
 
 /// The call that the bytes of a row say, where the row begins at a place.
-pub(crate) fn read_row(row: &[u8], place: usize) -> Result<Call, Fault>
+fn read_row(row: &[u8; ROW_BYTES], place: usize) -> Result<Call, Fault>
     ensures { result ≡ row_of row.now place }
 {
-    let [letter, warp, high, low, a, b, c, d, ..] = row else {
-        return Err(Fault::in_file(Refusal::CutShort, place));
-    };
+    let [letter, warp, high, low, a, b, c, d] = row;
     let line = u32::from(u16::from_be_bytes([*high, *low]));
     let value = u32::from_be_bytes([*a, *b, *c, *d]);
     let op = Op::named(char::from(*letter), line, value).ok_or(Fault::in_file(
@@ -45,27 +43,32 @@ pub(crate) fn read_row(row: &[u8], place: usize) -> Result<Call, Fault>
 pub(crate) fn read_rows(heap: Global, bytes: &[u8], start: usize) -> Result<RowsRead, AllocError>
     ensures { IfOk result (λ read. Holds read (rows_from bytes.now row_limit start)) }
 {
-    let mut calls = Vec::new(heap);
-    let Some(rest) = bytes.get(start..) else {
-        return Ok(RowsRead { calls, fault: None });
-    };
-    let rows = rest.chunks(ROW_BYTES).take(ROWS);
-    for (i, row) in rows.enumerate() {
-        match read_row(row, start + ROW_BYTES * i) {
-            Ok(call) => calls.push(call)?,
+    let rest = bytes.get(start..).unwrap_or(&[]);
+    let (rows, _) = rest.as_chunks::<ROW_BYTES>();
+    let rows = &rows[..rows.len().min(ROWS)];
+    let mut calls = Vec::with_capacity(heap, rows.len())?;
+    for row in rows {
+        let place = start + ROW_BYTES * calls.len();
+        match read_row(row, place) {
+            Ok(call) => calls.push_reserved(call),
             Err(fault) => return Ok(RowsRead {
                 calls,
                 fault: Some(fault),
             }),
         }
     }
-    let fault = after_last(bytes, start + ROW_BYTES * ROWS);
+    let fault = after_rows(bytes, start + ROW_BYTES * rows.len(), rows.len());
     Ok(RowsRead { calls, fault })
 }
 
-// What is wrong where the last row that may come has been read.
-fn after_last(bytes: &[u8], place: usize) -> Option<Fault>
-    ensures { result ≡ unless (nat_le (length bytes.now) place) TooManyRows place }
+// What is wrong where the whole rows end, so many of them: the row that begins there is cut short, or one too many.
+fn after_rows(bytes: &[u8], place: usize, rows: usize) -> Option<Fault>
+    ensures { result ≡ unless (nat_le (length bytes.now) place) (cond (nat_lt rows row_limit) CutShort TooManyRows) place }
 {
-    (place < bytes.len()).then_some(Fault::in_file(Refusal::TooManyRows, place))
+    let refusal = if rows < ROWS {
+        Refusal::CutShort
+    } else {
+        Refusal::TooManyRows
+    };
+    (place < bytes.len()).then_some(Fault::in_file(refusal, place))
 }

@@ -14,35 +14,83 @@ pub struct Filter {
     ghost size: { length entries ≡ 256 },
 }
 
+/// What the bits of a line's number add to its four indices: a row for each value of the four lowest bits,
+static LOW: [[usize; 4]; 16] = [
+    [0, 0, 0, 0],
+    [1, 37, 21, 63],
+    [2, 11, 42, 31],
+    [3, 46, 63, 32],
+    [4, 22, 5, 47],
+    [5, 51, 16, 16],
+    [6, 29, 47, 48],
+    [7, 56, 58, 15],
+    [8, 44, 10, 55],
+    [9, 9, 31, 8],
+    [10, 39, 32, 40],
+    [11, 2, 53, 23],
+    [12, 58, 15, 24],
+    [13, 31, 26, 39],
+    [14, 49, 37, 7],
+    [15, 20, 48, 56],
+];
+
+/// for each value of the next four bits,
+static MIDDLE: [[usize; 4]; 16] = [
+    [0, 0, 0, 0],
+    [16, 25, 20, 59],
+    [32, 50, 40, 61],
+    [48, 43, 60, 6],
+    [3, 7, 17, 62],
+    [19, 30, 5, 5],
+    [35, 53, 57, 3],
+    [51, 44, 45, 56],
+    [6, 14, 34, 1],
+    [22, 23, 54, 58],
+    [38, 60, 10, 60],
+    [54, 37, 30, 7],
+    [5, 9, 51, 63],
+    [21, 16, 39, 4],
+    [37, 59, 27, 2],
+    [53, 34, 15, 57],
+];
+
+/// and for each value of the four bits above them.
+static HIGH: [[usize; 4]; 16] = [
+    [0, 0, 0, 0],
+    [12, 28, 13, 9],
+    [24, 56, 26, 18],
+    [20, 36, 23, 27],
+    [48, 49, 52, 36],
+    [60, 45, 57, 45],
+    [40, 9, 46, 54],
+    [36, 21, 35, 63],
+    [33, 35, 41, 27],
+    [45, 63, 36, 18],
+    [57, 27, 51, 9],
+    [53, 7, 62, 0],
+    [17, 18, 29, 63],
+    [29, 14, 16, 54],
+    [9, 42, 7, 45],
+    [5, 54, 10, 36],
+];
+
 /// The four entries of a line, as one index in each way.
 // A form that is fixed (docs/DECISIONS.md): one array by value. So each call that takes it asks where it lies.
+#[inline(always)]
 pub fn indices(line: u32) -> [usize; 4]
     ensures value { result ≡ indices_of line }
     ensures inside { Inside result }
     ensures example { indices_of 5 ≡ 5 ∷ 51 ∷ 16 ∷ 16 ∷ [] }
 {
+    let low = LOW[(line % 16) as usize];
+    let middle = MIDDLE[(line / 16 % 16) as usize];
+    let high = HIGH[(line / 256 % 16) as usize];
     [
-        index([1, 2, 4, 8, 16, 32, 3, 6, 12, 24, 48, 33], line),
-        index([37, 11, 22, 44, 25, 50, 7, 14, 28, 56, 49, 35], line),
-        index([21, 42, 5, 10, 20, 40, 17, 34, 13, 26, 52, 41], line),
-        index([63, 31, 47, 55, 59, 61, 62, 1, 9, 18, 36, 27], line),
+        low[0] ^ middle[0] ^ high[0],
+        low[1] ^ middle[1] ^ high[1],
+        low[2] ^ middle[2] ^ high[2],
+        low[3] ^ middle[3] ^ high[3],
     ]
-}
-
-/// The exclusive or of a way's numbers for the bits set in the line's number, lowest first.
-fn index(numbers: [usize; 12], line: u32) -> usize
-    ensures { result ≡ index_by numbers line }
-{
-    let mut index = 0;
-    for (bit, number) in numbers.iter().enumerate() {
-        if line >> bit == 0 {
-            break;
-        }
-        if (line >> bit) % 2 == 1 {
-            index ^= *number;
-        }
-    }
-    index
 }
 
 impl Filter {

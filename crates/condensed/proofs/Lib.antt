@@ -1,3 +1,4 @@
 mod CondensedNew
 mod SharedMark
 mod Rooms
+mod Seats

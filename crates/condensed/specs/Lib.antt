@@ -1,5 +1,6 @@
 pub mod Filter
 pub mod Condensed
+pub mod Seats
 pub mod Pages
 pub mod Shared
 pub mod CondensedKeeps

@@ -12,7 +12,7 @@ ghost use Rattle.condensed.specs.Shared.{SharedMark};
 ghost use Rattle.condensed.specs.CondensedKeeps.{condensed_keeps};
 
 use crate::filter::{Filter, indices};
-use crate::slot::{Occupant, Place, Slot, any_free, position_of};
+use crate::slot::{Occupant, Place, Slot, any_free};
 use crate::state::CondensedBook;
 use book::entry::{Entry, Stamps, can_be};
 use book::record::{Book, Told};
@@ -34,19 +34,24 @@ impl CondensedBook {
             slots,
             filter: Filter::new(),
             latest: 0,
+            seats: [Place::FIRST; 4096],
         }
     }
 
     /// The slot that the line is in.
+    #[inline(always)]
     fn slot_of(&self, line: u32) -> Option<Place>
+        requires { line < line_limit }
         ensures { option_map place_at result ≡ slot_of self.now.slots line }
     {
-        let at = position_of(&self.slots, line)?;
-        Some(Place { at })
+        let place = self.seats[line as usize];
+        let slot = self.slots[place.at as usize];
+        slot.holds(line).then_some(place)
     }
 
     /// The slot that the line is in, or else the one to take for it.
     fn place_for(&self, line: u32) -> Option<Place>
+        requires { line < line_limit }
         ensures { option_map place_at result ≡ place_for self.now.slots line }
     {
         self.place_in(self.slot_of(line))
@@ -60,7 +65,7 @@ impl CondensedBook {
             return inside;
         }
         let at = choose(&self.slots)?;
-        Some(Place { at })
+        Some(Place { at: at as u8 })
     }
 
     /// Whether there is a slot for a line, by the slot that it is in.
@@ -71,13 +76,14 @@ impl CondensedBook {
     }
 
     /// What the book tells of a line with a number, from the slot that it is in or else from the filter.
+    #[inline(always)]
     fn told_in(&self, line: u32, inside: Option<Place>) -> Entry
         ensures value { result
             ≡ told_from self.now.slots self.now.filter.entries line (option_map place_at inside) }
         ensures bound { Bounded result.stamps self.now.latest }
     {
         match inside {
-            Some(place) => self.slots[place.at].entry(),
+            Some(place) => self.slots[place.at as usize].entry(),
             None => Entry {
                 stamps: self.filter.told(indices(line)),
                 ..Entry::UNTOUCHED
@@ -104,9 +110,10 @@ impl CondensedBook {
         ensures { condensed_page self.new
             ≡ with_slot (condensed_page self.old) line place.at entry stamp }
     {
-        self.slots[place.at] = Slot {
+        self.slots[place.at as usize] = Slot {
             occupant: Some(Occupant { line, entry }),
         };
+        self.seats[line as usize] = place;
         self.latest = self.latest.max(stamp);
     }
 
@@ -117,7 +124,7 @@ impl CondensedBook {
         ensures slots { self.new.slots ≡ self.old.slots }
         ensures latest { self.new.latest ≡ self.old.latest }
     {
-        self.filter.turn_out(self.slots[place.at], line);
+        self.filter.turn_out(self.slots[place.at as usize], line);
     }
 
     /// Notes a read of a line that is in no slot.
@@ -195,7 +202,7 @@ impl Book for CondensedBook {
             Some(place) => self.put(
                 line,
                 place,
-                self.slots[place.at].entry().read_at(time),
+                self.slots[place.at as usize].entry().read_at(time),
                 time.0,
             ),
             None => self.note_outside(line, time),
@@ -223,7 +230,7 @@ impl Book for CondensedBook {
             return Err(Refused);
         }
         let place = self.slot_of(line).ok_or(Refused)?;
-        let entry = self.slots[place.at].entry();
+        let entry = self.slots[place.at as usize].entry();
         let stores = entry.stores();
         if stores == 0 || stores as usize >= STORES {
             return Err(Refused);
@@ -237,7 +244,12 @@ impl Book for CondensedBook {
             return Err(Refused);
         }
         if let Some(place) = self.slot_of(line) {
-            self.put(line, place, self.slots[place.at].entry().with_stores(0), 0);
+            self.put(
+                line,
+                place,
+                self.slots[place.at as usize].entry().with_stores(0),
+                0,
+            );
         }
         Ok(())
     }

@@ -1,6 +1,6 @@
 //! A slot of the condensed book.
-ghost use Rattle.std.specs.Prelude.{◌≡◌, ◌<◌, length, is_some, IfSome};
-ghost use Rattle.condensed.specs.Condensed.{holds, entry_in, slot_of, slot_key};
+ghost use Rattle.std.specs.Prelude.{◌≡◌, ◌<◌, is_some};
+ghost use Rattle.condensed.specs.Condensed.{holds, entry_in, slot_key};
 ghost use Rattle.std.specs.List.{list_any};
 
 use book::entry::Entry;
@@ -22,8 +22,13 @@ pub struct Slot {
 /// Which of the sixteen slots.
 #[derive(Clone, Copy)]
 pub(crate) struct Place {
-    pub(crate) at: usize,
+    pub(crate) at: u8,
     ghost inside: { at < 16 },
+}
+
+impl Place {
+    /// The first slot.
+    pub(crate) const FIRST: Place = Place { at: 0 };
 }
 
 impl Slot {
@@ -64,15 +69,6 @@ impl Ranked for Slot {
         };
         (entry.stores() == 0).then_some(u64::from(entry.stamps.write))
     }
-}
-
-/// The first of the slots that holds the line.
-#[tactic(auto, unfolding(crate::specs::Condensed::slot_of))]
-pub(crate) fn position_of(slots: &[Slot], line: u32) -> Option<usize>
-    ensures value { result ≡ slot_of slots.now line }
-    ensures within { IfSome result (λ at. at < length slots.now) }
-{
-    slots.iter().position(|slot| slot.holds(line))
 }
 
 /// Whether one of the slots may be taken.

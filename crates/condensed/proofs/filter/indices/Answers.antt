@@ -1,6 +1,6 @@
 -- The four indices are the line's, and within their ways.
-use Rattle.std.proofs.Common.{◌≡◌, sym, subst}
-use Rattle.condensed.specs.Filter.{index_by, indices_of, Inside}
+use Rattle.std.proofs.Common.{sym, subst}
+use Rattle.condensed.specs.Filter.{index_by, Inside}
 use Rattle.condensed.specs.Indices.{rows_give, indices_inside, line_five}
 use Rattle.condensed.proofs.filter.indices.Goals as goal
 

@@ -14,8 +14,8 @@ pub struct Filter {
     ghost size: { length entries ≡ 256 },
 }
 
-/// What the bits of a line's number add to its four indices: a row for each value of the four lowest bits,
-static LOW: [[usize; 4]; 16] = [
+/// What the four lowest bits of a line's number add to its four indices: a row for each value that they may have.
+static LOW: [[u8; 4]; 16] = [
     [0, 0, 0, 0],
     [1, 37, 21, 63],
     [2, 11, 42, 31],
@@ -34,8 +34,8 @@ static LOW: [[usize; 4]; 16] = [
     [15, 20, 48, 56],
 ];
 
-/// for each value of the next four bits,
-static MIDDLE: [[usize; 4]; 16] = [
+/// What the next four bits add.
+static MIDDLE: [[u8; 4]; 16] = [
     [0, 0, 0, 0],
     [16, 25, 20, 59],
     [32, 50, 40, 61],
@@ -54,8 +54,8 @@ static MIDDLE: [[usize; 4]; 16] = [
     [53, 34, 15, 57],
 ];
 
-/// and for each value of the four bits above them.
-static HIGH: [[usize; 4]; 16] = [
+/// What the four bits above those add.
+static HIGH: [[u8; 4]; 16] = [
     [0, 0, 0, 0],
     [12, 28, 13, 9],
     [24, 56, 26, 18],
@@ -86,10 +86,10 @@ pub fn indices(line: u32) -> [usize; 4]
     let middle = MIDDLE[(line / 16 % 16) as usize];
     let high = HIGH[(line / 256 % 16) as usize];
     [
-        low[0] ^ middle[0] ^ high[0],
-        low[1] ^ middle[1] ^ high[1],
-        low[2] ^ middle[2] ^ high[2],
-        low[3] ^ middle[3] ^ high[3],
+        (low[0] ^ middle[0] ^ high[0]) as usize,
+        (low[1] ^ middle[1] ^ high[1]) as usize,
+        (low[2] ^ middle[2] ^ high[2]) as usize,
+        (low[3] ^ middle[3] ^ high[3]) as usize,
     ]
 }
 

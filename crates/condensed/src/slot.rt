@@ -47,7 +47,7 @@ impl Slot {
         ensures { result ≡ is_some (slot_key self.now) }
     {
         self.occupant
-            .is_none_or(|occupant| occupant.entry.stores() == 0)
+            .is_none_or(|occupant| occupant.entry.hold.is_none())
     }
 
     /// What is told of the line in the slot; without one, as of a line that no call named yet.
@@ -67,7 +67,8 @@ impl Ranked for Slot {
         let Some(Occupant { entry, .. }) = self.occupant else {
             return Some(0);
         };
-        (entry.stores() == 0).then_some(u64::from(entry.stamps.write))
+        let free = entry.hold.is_none();
+        free.then_some(u64::from(entry.stamps.write))
     }
 }
 

@@ -21,6 +21,7 @@ use rules::state::{Phase, Request};
 
 impl<M: Memory, B: Book> Machine<M, B> {
     /// What a load or a store meets. Whether the queue is full is asked only of one that would have to wait.
+    #[inline(always)]
     pub(crate) fn meet(&self, request: Request) -> Encounter
         ensures access { result.access ≡ request.access }
         ensures told { told_as result.told
@@ -38,6 +39,7 @@ impl<M: Memory, B: Book> Machine<M, B> {
     }
 
     /// The transaction is gone: it ends, and its warp goes on at the next stamp.
+    #[inline(always)]
     fn lose(&mut self, warp: u32, cause: Cause, next: u64) -> Answer
         requires { is_waiting (warp_row self.old.tables warp).phase ≡ false }
         ensures after { state M.Memory.at B.Book.kind B.Book.model self.new
@@ -61,6 +63,7 @@ impl<M: Memory, B: Book> Machine<M, B> {
     }
 
     /// A load or a store that would wait: if the queue is full for the line, its transaction ends at its own stamp.
+    #[inline(always)]
     fn wait_or_lose(&mut self, request: Request) -> Answer
         requires known { request.warp < length (warp_rows self.old.tables) }
         requires free { is_waiting (warp_row self.old.tables request.warp).phase ≡ false }
@@ -83,6 +86,7 @@ impl<M: Memory, B: Book> Machine<M, B> {
     // That the warp is known, does not wait and has room in its log are facts of the tables and the request together,
     // which a type of neither could hold; so each step asks for them.
     /// A load or a store of a warp that may go on.
+    #[inline(always)]
     pub(crate) fn access(&mut self, request: Request) -> Answer
         requires inside { request.line < line_limit }
         requires known { request.warp < length (warp_rows self.old.tables) }

@@ -26,7 +26,23 @@ impl<M: Memory, B: Book> Machine<M, B> {
         }
     }
 
+    /// Ends a transaction that has stores: first all are released, last those are tried that wait for their lines.
+    #[inline(never)]
+    fn end_stored(&mut self, warp: u32, stamp: u64)
+        requires { is_waiting (warp_row self.old.tables warp).phase ≡ false }
+        ensures { state M.Memory.at B.Book.kind B.Book.model self.new
+            ≡ (ends (product B.Book.kind) (state M.Memory.at B.Book.kind B.Book.model self.old)
+            warp stamp).machine }
+    {
+        let firsts = self.tables.firsts(warp);
+        let stores = firsts.stores();
+        self.release_all(stores);
+        self.tables.rest(warp, stamp);
+        self.wake_all(stores);
+    }
+
     /// Ends a warp's transaction: the warp is idle at a stamp.
+    #[inline(always)]
     pub(crate) fn end(&mut self, warp: u32, stamp: u64)
         requires { is_waiting (warp_row self.old.tables warp).phase ≡ false }
         ensures { state M.Memory.at B.Book.kind B.Book.model self.new
@@ -35,12 +51,8 @@ impl<M: Memory, B: Book> Machine<M, B> {
     {
         if self.tables.stored(warp) == 0 {
             self.tables.rest(warp, stamp);
-            return;
+        } else {
+            self.end_stored(warp, stamp);
         }
-        let firsts = self.tables.firsts(warp);
-        let stores = firsts.stores();
-        self.release_all(stores);
-        self.tables.rest(warp, stamp);
-        self.wake_all(stores);
     }
 }

@@ -1,6 +1,8 @@
 //! Runs: a machine is made and turns a list of calls.
 ghost use Rattle.std.specs.Prelude.{◌≡◌, IfOk};
 ghost use Rattle.rules.specs.Making.{making_fault};
+ghost use Rattle.rules.specs.Queue.{product};
+ghost use Rattle.rules.specs.Runs.{run};
 ghost use Rattle.machine.specs.Meaning.{state};
 ghost use Rattle.machine.specs.Moves.{passed};
 ghost use Rattle.machine.specs.Running.{run_of, Follows, AccountsOf, WaitsOf};
@@ -19,6 +21,23 @@ pub struct Ran<M, B> {
     pub machine: Machine<M, B>,
     pub shape: Result<(), Fault>,
     pub answers: Vec<Answer>,
+}
+
+impl<M: Memory, B: Book> Machine<M, B> {
+    /// Turns a list of calls, and answers each.
+    #[inline(never)]
+    fn turn(&mut self, heap: Global, calls: &[Call]) -> Result<Vec<Answer>, AllocError>
+        ensures { IfOk result
+            (λ answers. Follows (state M.Memory.at B.Book.kind B.Book.model self.new) answers.items
+            (run (product B.Book.kind) (state M.Memory.at B.Book.kind B.Book.model self.old)
+            calls.now)) }
+    {
+        let mut answers = Vec::new(heap);
+        for call in calls {
+            answers.push(self.call(*call))?;
+        }
+        Ok(answers)
+    }
 }
 
 /// Makes a machine and turns a list of calls. Answers and machine are those of the rules. Whatever the memory and the
@@ -43,10 +62,7 @@ pub fn run<M: Memory + Drop, B: Book + Drop>(
         (run_of B.Book.kind (M.Memory.at memory) (B.Book.model book) stamps.now calls.now) }
 {
     let (mut machine, shape) = Machine::make(memory, book, stamps);
-    let mut answers = Vec::new(heap);
-    for call in calls {
-        answers.push(machine.call(*call))?;
-    }
+    let answers = machine.turn(heap, calls)?;
     Ok(Ran {
         machine,
         shape,

@@ -20,6 +20,7 @@ impl<M: Memory, B: Book> Machine<M, B> {
     // A line is a plain number in every rule: a type for those below the limit would put its field's name into each
     // clause, in place of one condition.
     /// On a line that is nobody's: a load gives the memory's value, a store reserves the line.
+    #[inline(always)]
     pub(crate) fn serve(&mut self, request: Request) -> Outcome
         requires inside { request.line < line_limit }
         requires free { is_waiting (warp_row self.old.tables request.warp).phase ≡ false }
@@ -49,6 +50,7 @@ impl<M: Memory, B: Book> Machine<M, B> {
     // Of the shape of `serve`, but of another value and another call of the book: passed as closures, both would need
     // contracts of their own, and the match would still be there.
     /// On the warp's own line: a load gives the last value that it logged there, a store is added to the count.
+    #[inline(always)]
     pub(crate) fn serve_own(&mut self, request: Request) -> Outcome
         requires inside { request.line < line_limit }
         requires free { is_waiting (warp_row self.old.tables request.warp).phase ≡ false }

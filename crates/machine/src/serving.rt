@@ -127,18 +127,29 @@ impl<M: Memory, B: Book> Machine<M, B> {
         }
     }
 
+    // A call of its own, so that the room for the turns is made only where somebody waits.
     /// Every turn at a line.
+    #[inline(never)]
+    fn try_turns(&mut self, line: u32)
+        requires { line < line_limit }
+        ensures { state M.Memory.at B.Book.kind B.Book.model self.new
+            ≡ wake_at (state M.Memory.at B.Book.kind B.Book.model self.old) line }
+    {
+        let turns = self.tables.turns(line);
+        for warp in turns.as_slice() {
+            self.try_turn(line, *warp);
+        }
+    }
+
+    /// The turns at a line, if anybody waits there.
+    #[inline(always)]
     pub(crate) fn wake(&mut self, line: u32)
         requires { line < line_limit }
         ensures { state M.Memory.at B.Book.kind B.Book.model self.new
             ≡ wake_at (state M.Memory.at B.Book.kind B.Book.model self.old) line }
     {
-        if !self.tables.any_waits(line) {
-            return;
-        }
-        let turns = self.tables.turns(line);
-        for warp in turns.as_slice() {
-            self.try_turn(line, *warp);
+        if self.tables.any_waits(line) {
+            self.try_turns(line);
         }
     }
 }

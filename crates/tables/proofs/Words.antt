@@ -1,9 +1,10 @@
 -- The rules' words for lists, as the library's searches tell them.
-use Rattle.std.proofs.Common.{◌≡◌, ◌<◌, ◌≤◌, ℕ, min, cond, ◌||◌, eqb, List, [], ◌∷◌, map, length, take, take_all, Some, ⊎_elim, refl, sym, ap, ◌∙◌, arith}
+use Rattle.std.proofs.Common.{◌≡◌, ◌<◌, ◌≤◌, ℕ, min, cond, ◌||◌, eqb, ltb, List, [], ◌∷◌, map, length, take, take_all, Some, ⊎_elim, refl, sym, ap, ◌∙◌, arith}
 use Rattle.std.proofs.lemmas.Bool.{cases_lt}
+use Rattle.std.proofs.lemmas.Bool.Decides.{nat_tests}
 use Rattle.std.specs.List.{find, list_any}
 use Rattle.rules.specs.Lists.{has}
-use Rattle.rules.specs.Queue.{request_of}
+use Rattle.rules.specs.Queue.{request_of, requests_on}
 use Rattle.rules.specs.declared.state.Request.{Request}
 use Rattle.tables.specs.Rows.{pair_of, lines_in}
 use Rattle.tables.specs.declared.row.Store.{Store}
@@ -20,6 +21,11 @@ pub line_found :
     (stores : List Store) (n : ℕ) → list_any (λ (s : Store). eqb s.line n) stores ≡ has n (lines_in (map pair_of stores))
 line_found [] n = refl
 line_found (s ∷ rest) n = ap (λ b. eqb s.line n || b) (line_found rest n)
+
+pub waiting_found :
+    (q : List Request) (n : ℕ) → list_any (λ (r : Request). eqb r.line n) q ≡ ltb 0 (length (requests_on q n))
+waiting_found [] n = refl
+waiting_found (r ∷ rest) n = let rest_found = waiting_found rest n in grind (arith, nat_tests)
 
 -- The first so many of some numbers, where there may be fewer.
 pub first_ones : (ns : List ℕ) (n : ℕ) → n ≡ min (length ns) 32 → take n ns ≡ take 32 ns

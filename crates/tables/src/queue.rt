@@ -1,5 +1,5 @@
 //! The requests that wait: who waits for what, and whether there is room for one more.
-ghost use Rattle.std.specs.Prelude.{◌≡◌, ◌<◌, [], ◌∷◌, ◌++◌, length};
+ghost use Rattle.std.specs.Prelude.{◌≡◌, ◌<◌, [], ◌∷◌, ◌++◌, length, nat_lt};
 ghost use Rattle.protocol.specs.Limits.{line_room, queue_room};
 ghost use Rattle.rules.specs.Lists.{push_new, distinct};
 ghost use Rattle.rules.specs.Queue.{request_of, without, requests_on, is_full};
@@ -73,6 +73,13 @@ impl Queue {
         ensures { places self.new ≡ without (places self.old) warp }
     {
         self.requests.retain(|request| request.warp != warp);
+    }
+
+    /// Whether a request waits for a line.
+    pub(crate) fn any_on(&self, line: u32) -> bool
+        ensures { result ≡ nat_lt 0 (length (requests_on (places self.now) line)) }
+    {
+        self.requests.iter().any(|request| request.line == line)
     }
 
     /// How many requests wait for a line.

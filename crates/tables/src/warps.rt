@@ -74,10 +74,9 @@ impl Row {
         ensures { warp_row_in self.new ≡ logging (warp_row_in self.old) store.line store.value }
     {
         let log = self.log().push(store).unwrap();
-        // Tried copy_from_slice: the checker lends no field beside an invariant, and a copied array costs speed.
-        for (place, store) in log.stores().iter().enumerate() {
-            self.stores[place] = *store;
-        }
+        // Only the last store is written back: those before it stand in the row as they stand in the log.
+        let last = log.len() - 1;
+        self.stores[last] = log.stores()[last];
         self.len = log.len();
     }
 }
@@ -122,7 +121,10 @@ impl Tables {
     pub fn log(&self, warp: u32) -> Log
         ensures { log_of result ≡ (warp_row self.now warp).log }
     {
-        self.row(warp).map_or_else(Log::new, Row::log)
+        match self.row(warp) {
+            Some(row) => row.log(),
+            None => Log::new(),
+        }
     }
 
     /// The first store of each line in a warp's log, in their order.
@@ -130,7 +132,10 @@ impl Tables {
         ensures stores { log_of result ≡ first_stores (warp_row self.now warp).log }
         ensures lines { lines_in (log_of result) ≡ logged_lines (warp_row self.now warp).log }
     {
-        self.row(warp).map_or_else(Log::new, Row::firsts)
+        match self.row(warp) {
+            Some(row) => row.firsts(),
+            None => Log::new(),
+        }
     }
 
     /// A warp's request, if it has one.
@@ -158,7 +163,7 @@ impl Tables {
     pub fn any_waits(&self, line: u32) -> bool
         ensures { result ≡ nat_lt 0 (length (requests_on (queued self.now) line)) }
     {
-        self.queue.count_on(line) > 0
+        self.queue.any_on(line)
     }
 
     /// What a warp waits to do at a line, if it does.

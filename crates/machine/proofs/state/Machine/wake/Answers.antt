@@ -1,22 +1,10 @@
--- Where nobody waits nothing is to do; else the turns had are all.
-use Rattle.std.proofs.Common.{fold, sym, ap, ◌∙◌, arith}
-use Rattle.std.proofs.lemmas.List.{take_all}
+-- Where nobody waits nothing is to do.
+use Rattle.std.proofs.Common.{sym, ◌∙◌}
 use Rattle.machine.specs.Meaning.{state}
-use Rattle.machine.specs.Moves.{try_at}
-use Rattle.machine.proofs.Turning.{wake_is, nobody_waits}
+use Rattle.machine.proofs.Turning.{nobody_waits}
 use Rattle.machine.proofs.state.Machine.wake.Goals as goal
 
-pub returns-then-not-any_waits : goal.returns-then-not-any_waits
-returns-then-not-any_waits g c =
+pub returns-else-any_waits : goal.returns-else-any_waits
+returns-else-any_waits g c =
     let m = state g.M.Memory.at g.B.Book.kind g.B.Book.model c.args.self.now in
-    nobody_waits m c.args.line (sym c.any_waits.ensures ∙ c.if-not-any_waits.true)
-
-pub returns : goal.returns
-returns g c =
-    let m = state g.M.Memory.at g.B.Book.kind g.B.Book.model c.args.self.now in
-    let l = c.loop-warp in
-    let all = take_all l.warp-index c.as_slice-warp-items.result.now (omega arith) in
-    l.invariant
-    ∙ ap (fold (try_at c.args.line) m)
-    (all ∙ c.as_slice-warp-items.ensures.value ∙ c.turns-turns.ensures)
-    ∙ sym (wake_is m c.args.line)
+    nobody_waits m c.args.line (sym c.any_waits.ensures ∙ c.if-any_waits.false)

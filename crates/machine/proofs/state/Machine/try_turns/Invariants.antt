@@ -2,7 +2,7 @@
 use Rattle.std.proofs.Common.{◌≡◌, take, fold}
 use Rattle.machine.specs.Meaning.{state}
 use Rattle.machine.specs.Moves.{try_at}
-use Rattle.machine.proofs.state.Machine.wake.Given as goal
+use Rattle.machine.proofs.state.Machine.try_turns.Given as goal
 
 abbrev pub invariant-loop-warp : goal.invariant-loop-warp
 invariant-loop-warp g l =

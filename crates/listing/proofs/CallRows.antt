@@ -3,7 +3,8 @@ use Rattle.std.proofs.Common.{◌≡◌, ℕ, zero, suc, ◌+◌, ◌-◌, ◌<�
 use native.Mathlib.Numerals.{unary_clauses}
 use Rattle.protocol.specs.declared.answer.Answer.{Answer}
 use Rattle.protocol.specs.declared.call.Call.{Call}
-use Rattle.listing.specs.Rows.{call_row}
+use Rattle.std.specs.Fmt.{decimal}
+use Rattle.listing.specs.Rows.{call_end, call_row}
 use Rattle.listing.specs.Listing.{call_rows}
 
 module _ (no_call : Call) (no_answer : Answer) where
@@ -37,6 +38,16 @@ module _ (no_call : Call) (no_answer : Answer) where
       ∙ sym (append_assoc (call_rows 1 (take (n - 1) calls) (take (n - 1) answers)) _ old)
       ∙ ap (λ rows. rows ++ old) (sym (one_row_more 1 (n - 1) calls answers (omega arith) (omega arith)))
       ∙ subst (λ m. call_rows 1 (take m calls) (take m answers) ++ old ≡ text) back f
+
+-- A place before the rest of a call's row makes the row.
+pub row_put :
+    (first told n : ℕ) (call : Call) (answer : Answer) (old rest new : List ℕ)
+    → told ≡ first → first ≤ n → rest ≡ call_end call answer ++ old → new ≡ decimal (first + (n - told)) ++ rest
+    → new ≡ call_row n call answer ++ old
+row_put first told n call answer old rest new is within e f =
+    let place : first + (n - told) ≡ n = omega arith in
+    f ∙ ap (λ m. decimal m ++ rest) place ∙ ap (λ t. decimal n ++ t) e
+    ∙ sym (append_assoc (decimal n) (call_end call answer) old)
 
 -- As many calls as there are, or as many answers, are all that have rows.
 pub all_listed :

@@ -1,3 +1,4 @@
 mod MemRows
 mod CallRows
 mod Listed
+mod Fronts

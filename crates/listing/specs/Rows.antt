@@ -23,8 +23,11 @@ bad_row fault = pair_row (codes "bad ") (refusal_number fault.refusal) fault.num
 abbrev pub answer_row : Answer → List ℕ
 answer_row answer = answer_text answer ++ codes "\n"
 
--- A call's row: its place in the run, from 1, its letter, its warp and its answer.
+-- A call's row but for its place: its letter, its warp and its answer.
+abbrev pub call_end : Call → Answer → List ℕ
+call_end call answer =
+    (codes " " ++ (op_letter call.op ∷ codes " ")) ++ (decimal call.warp ++ (codes " " ++ answer_row answer))
+
+-- A call's row, with its place in the run, from 1.
 abbrev pub call_row : ℕ → Call → Answer → List ℕ
-call_row place call answer =
-    decimal place
-    ++ ((codes " " ++ (op_letter call.op ∷ codes " ")) ++ (decimal call.warp ++ (codes " " ++ answer_row answer)))
+call_row place call answer = decimal place ++ call_end call answer

@@ -3,6 +3,7 @@
 
 pub mod listing;
 mod pages;
+mod place;
 mod row;
 #[cfg(test)]
 mod tests;

@@ -2,8 +2,9 @@
 ghost use Rattle.std.specs.Prelude.{◌≡◌, ◌+◌, ◌≤◌, ◌++◌, length, take, drop, IsUtf8, OnOk, string_bytes};
 ghost use Rattle.listing.specs.Listing.{call_rows, line_row, mem_rows};
 
+use crate::place::Front;
 use crate::row::{ROOM, text_from};
-use crate::text::{put_call_row, put_mem_row};
+use crate::text::{put_call, put_mem_row};
 use book::record::Book;
 use machine::state::Machine;
 use memory::store::Memory;
@@ -28,9 +29,15 @@ fn put_call_rows(page: &mut [u8], from: usize, calls: &[Call], answers: &[Answer
     ensures text { call_rows 1 (take from calls.now) (take from answers.now) ++ drop result page.new
         ≡ call_rows 1 calls.now answers.now }
 {
+    let mut front = Front::of(calls.len() as u64);
     let mut start = page.len();
     for i in (from..calls.len()).rev() {
-        start = put_call_row(page, start, i as u64 + 1, calls[i], answers[i]);
+        let place = i as u64 + 1;
+        if place < front.first() {
+            front = Front::of(place);
+        }
+        start = put_call(page, start, calls[i], answers[i]);
+        start = front.put_place(page, start, place - front.first());
     }
     start
 }

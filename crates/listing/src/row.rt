@@ -34,6 +34,7 @@ pub(crate) fn put_number(page: &mut [u8], end: usize, number: u64) -> usize
     requires within { end ≤ length page.old }
     ensures utf8 { IsUtf8 (drop result page.new) }
     ensures text { drop result page.new ≡ decimal number ++ drop end page.old }
+    ensures digits { result + length (decimal number) ≡ end }
     ensures start { end ≤ result + 20 }
     ensures still { result ≤ end }
 {

@@ -1,7 +1,7 @@
 //! The rows, into a page from their ends, and each after a text. Where memory is wanting, the text is as it was: a row is
 //! there whole or not at all.
 ghost use Rattle.std.specs.Prelude.{◌≡◌, ◌+◌, ◌≤◌, ◌++◌, length, drop, IsUtf8, OnOk, OnErr, string_bytes};
-ghost use Rattle.listing.specs.Rows.{mem_row, bad_row, call_row};
+ghost use Rattle.listing.specs.Rows.{mem_row, bad_row, call_end, call_row};
 
 use crate::row::{ROOM, put_answer, put_byte, put_number, put_small, put_word, text_from};
 use protocol::answer::Answer;
@@ -43,29 +43,22 @@ fn put_bad_row(page: &mut [u8], end: usize, fault: Fault) -> usize
     put_word(page, start, "bad ")
 }
 
-/// The row of a call, by its place in the run from 1: its letter, its warp and its answer.
+/// The row of a call but for its place: its letter, its warp and its answer.
 #[inline(always)]
-pub(crate) fn put_call_row(
-    page: &mut [u8],
-    end: usize,
-    place: u64,
-    call: Call,
-    answer: Answer,
-) -> usize
+pub(crate) fn put_call(page: &mut [u8], end: usize, call: Call, answer: Answer) -> usize
     requires utf8 { IsUtf8 (drop end page.old) }
-    requires room { 96 ≤ end }
+    requires room { 72 ≤ end }
     requires within { end ≤ length page.old }
     ensures utf8 { IsUtf8 (drop result page.new) }
-    ensures text { drop result page.new ≡ call_row place call answer ++ drop end page.old }
-    ensures start { end ≤ result + 96 }
+    ensures text { drop result page.new ≡ call_end call answer ++ drop end page.old }
+    ensures start { end ≤ result + 72 }
     ensures still { result ≤ end }
 {
     let start = put_answer(page, end, answer);
     let start = put_small(page, start, call.warp);
     let start = put_byte(page, start, b' ');
     let start = put_byte(page, start, call.op.letter() as u8);
-    let start = put_byte(page, start, b' ');
-    put_number(page, start, place)
+    put_byte(page, start, b' ')
 }
 
 /// Adds the row of a line's value at the end of a run.
@@ -99,6 +92,7 @@ pub fn add_call_row(
     ensures kept { OnErr result (string_bytes text.new ≡ string_bytes text.old) }
 {
     let mut page = [0; ROOM];
-    let start = put_call_row(&mut page, ROOM, place, call, answer);
+    let start = put_call(&mut page, ROOM, call, answer);
+    let start = put_number(&mut page, start, place);
     text.push_str(text_from(&page, start))
 }

@@ -1,4 +1,4 @@
-use Rattle.std.proofs.Common.{◌≡◌, ◌+◌, ◌*◌, ◌-◌, ◌≤◌, ◌++◌, length, take, drop}
+use Rattle.std.proofs.Common.{◌≡◌, ◌+◌, ◌*◌, ◌-◌, ◌<◌, ◌≤◌, ◌++◌, length, take, drop}
 use Rattle.std.specs.Prelude.{IsUtf8}
 use Rattle.listing.specs.Listing.{call_rows}
 use Rattle.listing.proofs.pages.put_call_rows.Given as goal
@@ -11,5 +11,6 @@ invariant-loop-i l = record {
   within : l.start ≤ 3072;
   room : 3072 ≤ l.start + 96 * (length l.calls - l.i);
   page : length l.page ≡ 3072;
+  near : l.i < l.front.first + 100;
   text : call_rows 1 (take l.i l.calls) (take l.i l.answers) ++ drop l.start l.page ≡ call_rows 1 l.calls l.answers;
 }

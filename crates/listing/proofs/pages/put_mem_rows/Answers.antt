@@ -14,7 +14,8 @@ loop-line-preserved g c =
       within = search rules;
       room = search rules;
       page = search rules;
-      text = line_before (g.M.Memory.at c.args.machine.now.memory) c.loop-line.line _ _ _ (omega arith)
+      text = line_before (g.M.Memory.at c.args.machine.now.memory) c.loop-line.line (drop c.loop-line.start c.loop-line.page)
+          (drop c.put_line_row-start.result c.put_line_row-start.new.page) (mem_rows (g.M.Memory.at c.args.machine.now.memory) c.args.to) (omega arith)
           c.put_line_row-start.ensures.text inv.text;
     }
 

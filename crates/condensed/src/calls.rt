@@ -1,5 +1,5 @@
 //! The condensed book: a few slots, and a filter that tells of all other lines no earlier than it must.
-ghost use Rattle.std.specs.Prelude.{◌≡◌, ◌<◌, max, is_some, Some, None};
+ghost use Rattle.std.specs.Prelude.{◌≡◌, ◌<◌, ◌&&◌, nat_lt, max, is_some, Some, None};
 ghost use Rattle.std.specs.Option.{option_map};
 ghost use Rattle.protocol.specs.Limits.{line_limit};
 ghost use Rattle.book.specs.Meaning.{New};
@@ -102,6 +102,20 @@ impl CondensedBook {
         self.told_in(line, self.slot_of(line))
     }
 
+    /// What the book tells of the line, and whether there is a slot for it.
+    #[inline(always)]
+    fn with_room(&self, line: u32) -> (Entry, bool)
+        ensures entry { result.0 ≡ told (condensed_page self.now) line }
+        ensures bound { Bounded result.0.stamps self.now.latest }
+        ensures room { result.1 ≡ (nat_lt line line_limit && is_some (place_for self.now.slots line)) }
+    {
+        if line >= LINES {
+            return (Entry::UNTOUCHED, false);
+        }
+        let inside = self.slot_of(line);
+        (self.told_in(line, inside), self.has_room(inside))
+    }
+
     /// Writes a line and its entry into the slot that is for it, and raises the latest stamp where it is earlier.
     fn put(&mut self, line: u32, place: Place, entry: Entry, stamp: u32)
         requires its_place { place_for self.old.slots line ≡ Some place.at }
@@ -172,21 +186,12 @@ impl Book for CondensedBook {
     }
 
     fn told(&self, line: u32) -> Told {
-        if line >= LINES {
-            return Told {
-                written: 0,
-                read: (0, 0),
-                owner: None,
-                slot: false,
-            };
-        }
-        let inside = self.slot_of(line);
-        let entry = self.told_in(line, inside);
+        let (entry, slot) = self.with_room(line);
         Told {
             written: entry.stamps.write,
             read: entry.stamps.read,
             owner: entry.owner(),
-            slot: self.has_room(inside),
+            slot,
         }
     }
 

@@ -4,6 +4,7 @@ ghost use Rattle.book.specs.Entries.{no_stamps};
 ghost use Rattle.condensed.specs.Condensed.{turned_out};
 ghost use Rattle.condensed.specs.Filter.{index_by, indices_of, Inside, filter_told, filter_raised, raised_at};
 
+use crate::rows::ROWS;
 use crate::slot::Slot;
 use book::entry::Stamps;
 
@@ -14,73 +15,6 @@ pub struct Filter {
     ghost size: { length entries ≡ 256 },
 }
 
-/// What the bits of a line's number add to its four indices: for four bits a row for each value that they may have.
-struct Rows {
-    /// The four lowest bits.
-    low: [[u8; 4]; 16],
-    /// The next four.
-    middle: [[u8; 4]; 16],
-    /// The four above those.
-    high: [[u8; 4]; 16],
-}
-
-static ROWS: Rows = Rows {
-    low: [
-        [0, 0, 0, 0],
-        [1, 37, 21, 63],
-        [2, 11, 42, 31],
-        [3, 46, 63, 32],
-        [4, 22, 5, 47],
-        [5, 51, 16, 16],
-        [6, 29, 47, 48],
-        [7, 56, 58, 15],
-        [8, 44, 10, 55],
-        [9, 9, 31, 8],
-        [10, 39, 32, 40],
-        [11, 2, 53, 23],
-        [12, 58, 15, 24],
-        [13, 31, 26, 39],
-        [14, 49, 37, 7],
-        [15, 20, 48, 56],
-    ],
-    middle: [
-        [0, 0, 0, 0],
-        [16, 25, 20, 59],
-        [32, 50, 40, 61],
-        [48, 43, 60, 6],
-        [3, 7, 17, 62],
-        [19, 30, 5, 5],
-        [35, 53, 57, 3],
-        [51, 44, 45, 56],
-        [6, 14, 34, 1],
-        [22, 23, 54, 58],
-        [38, 60, 10, 60],
-        [54, 37, 30, 7],
-        [5, 9, 51, 63],
-        [21, 16, 39, 4],
-        [37, 59, 27, 2],
-        [53, 34, 15, 57],
-    ],
-    high: [
-        [0, 0, 0, 0],
-        [12, 28, 13, 9],
-        [24, 56, 26, 18],
-        [20, 36, 23, 27],
-        [48, 49, 52, 36],
-        [60, 45, 57, 45],
-        [40, 9, 46, 54],
-        [36, 21, 35, 63],
-        [33, 35, 41, 27],
-        [45, 63, 36, 18],
-        [57, 27, 51, 9],
-        [53, 7, 62, 0],
-        [17, 18, 29, 63],
-        [29, 14, 16, 54],
-        [9, 42, 7, 45],
-        [5, 54, 10, 36],
-    ],
-};
-
 /// The four entries of a line, as one index in each way.
 // A form that is fixed (docs/DECISIONS.md): one array by value. So each call that takes it asks where it lies.
 #[inline(always)]
@@ -89,14 +23,13 @@ pub fn indices(line: u32) -> [usize; 4]
     ensures inside { Inside result }
     ensures example { indices_of 5 ≡ 5 ∷ 51 ∷ 16 ∷ 16 ∷ [] }
 {
-    let low = ROWS.low[(line % 16) as usize];
-    let middle = ROWS.middle[(line / 16 % 16) as usize];
-    let high = ROWS.high[(line / 256 % 16) as usize];
+    let low = ROWS.low[(line % 64) as usize];
+    let high = ROWS.high[(line / 64 % 64) as usize];
     [
-        (low[0] ^ middle[0] ^ high[0]) as usize,
-        (low[1] ^ middle[1] ^ high[1]) as usize,
-        (low[2] ^ middle[2] ^ high[2]) as usize,
-        (low[3] ^ middle[3] ^ high[3]) as usize,
+        (low[0] ^ high[0]) as usize,
+        (low[1] ^ high[1]) as usize,
+        (low[2] ^ high[2]) as usize,
+        (low[3] ^ high[3]) as usize,
     ]
 }
 

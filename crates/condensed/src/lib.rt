@@ -3,5 +3,6 @@
 
 pub mod calls;
 pub mod filter;
+mod rows;
 pub mod slot;
 pub mod state;

@@ -74,9 +74,8 @@ impl Row {
         ensures { warp_row_in self.new ≡ logging (warp_row_in self.old) store.line store.value }
     {
         let log = self.log().push(store).unwrap();
-        // Only the last store is written back: those before it stand in the row as they stand in the log.
-        let last = log.len() - 1;
-        self.stores[last] = log.stores()[last];
+        // Only the new store is written back: those before it stand in the row as they stand in the log.
+        self.stores[self.len] = store;
         self.len = log.len();
     }
 }

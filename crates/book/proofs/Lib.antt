@@ -1,1 +1,2 @@
 pub mod Earliest
+mod Keeping

@@ -3,6 +3,7 @@ pub mod Meaning
 pub mod Entries
 pub mod Grants
 pub mod Exact
+pub mod Kept
 pub mod Pages
 pub mod Earliest
 pub mod ExactKeeps

@@ -79,7 +79,8 @@ impl Hold {
     ghost use Rattle.book.specs.Entries.{hold_by};
 
     /// So many stores of a warp; no hold where there are none.
-    fn of(warp: u32, stores: u32) -> Option<Hold>
+    #[inline(always)]
+    pub(crate) fn of(warp: u32, stores: u32) -> Option<Hold>
         ensures { result ≡ hold_by warp stores }
     {
         match stores {

@@ -3,11 +3,12 @@ ghost use Rattle.std.specs.Prelude.{◌≡◌, ◌<◌, max};
 ghost use Rattle.protocol.specs.Limits.{line_limit};
 ghost use Rattle.book.specs.Meaning.{New};
 ghost use Rattle.book.specs.Exact.{exact, exact_new, entry_at, with_entry, FitsBy};
+ghost use Rattle.book.specs.Kept.{Small};
 ghost use Rattle.book.specs.Pages.{exact_page, good_page};
 ghost use Rattle.book.specs.ExactKeeps.{exact_keeps};
 
 use crate::entry::{Entry, can_be};
-use crate::exact::ExactBook;
+use crate::exact::{ExactBook, Kept};
 use crate::record::Book;
 use crate::refused::Refused;
 use protocol::limits::{LINES, STORES};
@@ -18,27 +19,28 @@ impl ExactBook {
         ensures value { exact_page result ≡ exact_new }
         ensures new { New exact (exact_page result) }
     {
-        let entries = [Entry::UNTOUCHED; 4096];
+        let entries = [Kept::UNTOUCHED; 4096];
         ExactBook { entries, latest: 0 }
     }
 
     /// What the book has of a line; a line without a number is as one that no call named yet.
     fn at(&self, line: u32) -> Entry
-        ensures { result ≡ entry_at (exact_page self.now) line }
+        ensures value { result ≡ entry_at (exact_page self.now) line }
+        ensures small { Small result }
     {
-        self.entries
-            .get(line as usize)
-            .copied()
-            .unwrap_or(Entry::UNTOUCHED)
+        let kept = self.entries.get(line as usize).copied();
+        kept.unwrap_or(Kept::UNTOUCHED).entry()
     }
 
     /// Sets the entry of a line, and raises the latest stamp where it is earlier.
     fn set(&mut self, line: u32, entry: Entry, stamp: u32)
-        requires { (line < line_limit) × (FitsBy (max self.old.latest stamp) entry) }
+        requires inside { line < line_limit }
+        requires fits { FitsBy (max self.old.latest stamp) entry }
+        requires small { Small entry }
         ensures { exact_page self.new
             ≡ with_entry (exact_page self.old) line entry stamp }
     {
-        self.entries[line as usize] = entry;
+        self.entries[line as usize] = Kept::of(entry);
         self.latest = self.latest.max(stamp);
     }
 }

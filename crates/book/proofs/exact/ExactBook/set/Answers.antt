@@ -1,6 +1,7 @@
 -- An entry that fits may be set.
 use Rattle.std.proofs.Common.{◌≤◌, sym, subst, arith}
-use Rattle.book.specs.Exact.{FitsBy}
+use Rattle.book.specs.Exact.{FitsBy, Sound, page_of}
+use Rattle.book.proofs.Keeping.{now_kept}
 use Rattle.book.specs.Pages.{exact_page}
 use Rattle.book.specs.ExactKeeps.{good_with}
 use Rattle.book.proofs.exact.ExactBook.set.Goals as goal
@@ -11,5 +12,15 @@ invariant_of-self c =
     let later = c.max-self.result in
     let up : b.latest ≤ later = omega arith in
     let fits : FitsBy later c.args.entry = subst (λ m. FitsBy m c.args.entry) (sym c.max-self.ensures)
-    c.requires.1 in
-    record { sound = good_with (exact_page b) b.sound c.args.line c.args.entry later up fits }
+    c.requires.fits in
+    record {
+      sound = subst (λ entries. Sound (page_of entries later)) (sym (now_kept c.args.line c.args.entry c.of.result b.entries c.of.ensures))
+          (good_with (exact_page b) b.sound c.args.line c.args.entry later up fits);
+    }
+
+pub returns : goal.returns
+returns c =
+    let b = c.args.self.now in
+    let kept = now_kept c.args.line c.args.entry c.of.result b.entries c.of.ensures in
+    let latest = c.max-self.ensures in
+    cc

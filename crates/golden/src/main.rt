@@ -102,19 +102,19 @@ fn open_front(rt: &HostRuntime, path: &str, limit: u64) -> io::Result<Vec<u8>> {
     read_front(rt, File::open(rt, path)?, limit)
 }
 
+// The first bytes of the input. Each turn but the last reads a byte or more, so there are turns enough.
 fn read_front<R: Read + Drop>(rt: &HostRuntime, input: R, limit: u64) -> io::Result<Vec<u8>> {
     let mut input = input.take(limit);
     let mut bytes = Vec::new(rt.alloc());
     for _ in 0..=limit {
-        let count = read_more(&mut input, &mut bytes)?;
-        if count == 0 {
+        if read_more(&mut input, &mut bytes)? == 0 {
             break;
         }
     }
     Ok(bytes)
 }
 
-// Reads some bytes after those that are there, and returns how many: none at the end of the input.
+// Reads on behind the bytes that are there, and returns how many came: none at the end of the input.
 fn read_more<R: Read>(input: &mut R, bytes: &mut Vec<u8>) -> io::Result<usize> {
     let filled = bytes.len();
     bytes.resize(filled + READ_BYTES, 0)?;

@@ -1,12 +1,12 @@
 //! The condensed book: a few slots, and a filter that tells of all other lines no earlier than it must.
-ghost use Rattle.std.specs.Prelude.{◌≡◌, ◌<◌, ◌&&◌, nat_lt, max, is_some, Some, None};
+ghost use Rattle.std.specs.Prelude.{◌≡◌, ◌<◌, ◌&&◌, nat_lt, max, is_some, Some, None, get_or};
 ghost use Rattle.std.specs.Option.{option_map};
 ghost use Rattle.protocol.specs.Limits.{line_limit};
 ghost use Rattle.book.specs.Meaning.{New};
 ghost use Rattle.book.specs.Earliest.{Earliest};
 ghost use Rattle.book.specs.Exact.{FitsBy};
 ghost use Rattle.condensed.specs.Condensed.{condensed, condensed_new, slot_of, place_in, place_for, told_from, told};
-ghost use Rattle.condensed.specs.Condensed.{Bounded, vacated, with_slot, note_in};
+ghost use Rattle.condensed.specs.Condensed.{Bounded, empty, entry_in, vacated, with_slot, note_in};
 ghost use Rattle.condensed.specs.Pages.{place_at, condensed_page, sound_page};
 ghost use Rattle.condensed.specs.Shared.{SharedMark};
 ghost use Rattle.condensed.specs.CondensedKeeps.{condensed_keeps};
@@ -75,6 +75,14 @@ impl CondensedBook {
         inside.is_some() || any_free(&self.slots)
     }
 
+    /// What is told of the line in a slot.
+    #[inline(always)]
+    fn entry_at(&self, place: Place) -> Entry
+        ensures { result ≡ entry_in (get_or self.now.slots place.at empty) }
+    {
+        self.slots[place.at as usize].entry()
+    }
+
     /// What the book tells of a line with a number, from the slot that it is in or else from the filter.
     #[inline(always)]
     fn told_in(&self, line: u32, inside: Option<Place>) -> Entry
@@ -83,7 +91,7 @@ impl CondensedBook {
         ensures bound { Bounded result.stamps self.now.latest }
     {
         match inside {
-            Some(place) => self.slots[place.at as usize].entry(),
+            Some(place) => self.entry_at(place),
             None => Entry {
                 stamps: self.filter.told(indices(line)),
                 ..Entry::UNTOUCHED
@@ -204,12 +212,7 @@ impl Book for CondensedBook {
             return Err(Refused);
         }
         match self.slot_of(line) {
-            Some(place) => self.put(
-                line,
-                place,
-                self.slots[place.at as usize].entry().read_at(time),
-                time.0,
-            ),
+            Some(place) => self.put(line, place, self.entry_at(place).read_at(time), time.0),
             None => self.note_outside(line, time),
         }
         Ok(())
@@ -235,7 +238,7 @@ impl Book for CondensedBook {
             return Err(Refused);
         }
         let place = self.slot_of(line).ok_or(Refused)?;
-        let entry = self.slots[place.at as usize].entry();
+        let entry = self.entry_at(place);
         let stores = entry.stores();
         if stores == 0 || stores as usize >= STORES {
             return Err(Refused);
@@ -249,12 +252,7 @@ impl Book for CondensedBook {
             return Err(Refused);
         }
         if let Some(place) = self.slot_of(line) {
-            self.put(
-                line,
-                place,
-                self.slots[place.at as usize].entry().with_stores(0),
-                0,
-            );
+            self.put(line, place, self.entry_at(place).with_stores(0), 0);
         }
         Ok(())
     }

@@ -20,7 +20,8 @@ module _ (slots : List Slot) (seats : List Place) (apart : Apart slots) (seated 
       → (there : Slot) → there ≡ slice_index_or slots place.at empty
       → option_map place_at (then_some (holds there n) place) ≡ slot_of slots n
   found_at_seat n place at there is =
-      ap (λ x. option_map place_at (then_some (holds x n) place)) is ∙ by (holds (slice_index_or slots place.at empty) n) refl
+      ap (λ x. option_map place_at (then_some (holds x n) place)) is
+      ∙ by (holds (slice_index_or slots place.at empty) n) refl
     where
       by :
           (b : Bool) → holds (slice_index_or slots place.at empty) n ≡ b
@@ -28,8 +29,12 @@ module _ (slots : List Slot) (seats : List Place) (apart : Apart slots) (seated 
       by true e = sym (found_in slots apart n place.at e)
       by false e = sym (none_found slots n (λ k _. elsewhere k (holds (slice_index_or slots k empty) n) refl))
         where
-          elsewhere : (k : ℕ) (b : Bool) → holds (slice_index_or slots k empty) n ≡ b → holds (slice_index_or slots k empty) n ≡ false
-          elsewhere k true h = ap (λ i. holds (slice_index_or slots i empty) n) (sym (ap (λ p. p.at) at ∙ seated k n h)) ∙ e
+          elsewhere :
+              (k : ℕ) (b : Bool) → holds (slice_index_or slots k empty) n ≡ b
+              → holds (slice_index_or slots k empty) n ≡ false
+          elsewhere k true h =
+              let here : place.at ≡ k = ap (λ p. p.at) at ∙ seated k n h in
+              ap (λ i. holds (slice_index_or slots i empty) n) (sym here) ∙ e
           elsewhere k false h = h
 
   -- A line that is put into the slot for it has its seat there; the line that was there may keep its own.
@@ -64,7 +69,8 @@ module _ (slots : List Slot) (seats : List Place) (apart : Apart slots) (seated 
       apart_from ne =
           let before : holds (slice_index_or slots i empty) n ≡ true =
           ap (λ s. holds s n) (sym (get_or-set_other slots place.at i (holding line e) empty ne)) ∙ h in
-          let other : n ≡ line → ⊥ = λ is. ne (only i (subst (λ x. holds (slice_index_or slots i empty) x ≡ true) is before)) in
+          let other : n ≡ line → ⊥ =
+          λ is. ne (only i (subst (λ x. holds (slice_index_or slots i empty) x ≡ true) is before)) in
           ap (λ p. p.at) (get_or-set_other seats line n place first_place other) ∙ seated i n before
 
 -- No slot of a new book holds a line.

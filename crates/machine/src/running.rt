@@ -32,7 +32,7 @@ impl<M: Memory, B: Book> Machine<M, B> {
             (run (product B.Book.kind) (state M.Memory.at B.Book.kind B.Book.model self.old)
             calls.now)) }
     {
-        let mut answers = Vec::new(heap);
+        let mut answers = Vec::with_capacity(heap, calls.len())?;
         for call in calls {
             answers.push(self.call(*call))?;
         }

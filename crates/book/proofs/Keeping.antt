@@ -1,13 +1,11 @@
 -- An entry that is kept is the entry, and stands in the table of entries.
-use Rattle.std.proofs.Common.{◌≡◌, ℕ, List, set, Option, None, Some, refl, ap, ◌∙◌, sym}
+use Rattle.std.proofs.Common.{◌≡◌, ℕ, Option, None, Some, refl, ap, ◌∙◌, sym}
 use Rattle.std.specs.Option.{unwrap_or}
-use Rattle.std.proofs.lemmas.List.{map-set}
 use Rattle.book.specs.Entries.{hold_by, owner_of, stores_of, owner_told, stores_told}
 use Rattle.book.specs.ExactKeeps.{hold_again}
-use Rattle.book.specs.Kept.{entry_kept, entries_kept}
+use Rattle.book.specs.Kept.{entry_kept}
 use Rattle.book.specs.declared.entry.Entry.{Entry}
 use Rattle.book.specs.declared.entry.Hold.{Hold}
-use Rattle.book.specs.declared.exact.Kept.{Kept}
 
 same_hold : (hold : Option Hold) → hold_by (unwrap_or (owner_of hold) 0) (stores_of hold) ≡ hold
 same_hold None = refl
@@ -21,8 +19,3 @@ pub kept_again :
 kept_again e owner warp stores o w s =
     ap (λ hold. record { stamps = e.stamps; hold = hold })
     (ap (λ n. hold_by n stores) (w ∙ ap (λ x. unwrap_or x 0) o) ∙ ap (hold_by (unwrap_or (owner_told e) 0)) s ∙ same_hold e.hold)
-
-pub now_kept :
-    (line : ℕ) (entry : Entry) (kept : Kept) (entries : List Kept) → entry_kept kept ≡ entry
-    → entries_kept (set entries line kept) ≡ set (entries_kept entries) line entry
-now_kept line entry kept entries e = map-set entry_kept entries line kept ∙ ap (λ x. set (entries_kept entries) line x) e

@@ -3,6 +3,7 @@ pub mod calls;
 
 ghost use Rattle.std.specs.Prelude.{◌≡◌, ◌<◌};
 ghost use Rattle.book.specs.Exact.{Sound, page_of};
+ghost use Rattle.book.specs.Entries.{entry_read};
 ghost use Rattle.book.specs.Kept.{entry_kept, entries_kept, Small};
 
 use crate::entry::{Entry, Hold, Stamps};
@@ -40,6 +41,23 @@ impl Kept {
             reader: read.1 as u8,
             owner: entry.owner().unwrap_or(0) as u8,
             stores: entry.stores() as u8,
+        }
+    }
+
+    /// The entry after a read.
+    #[inline(always)]
+    fn read_at(self, time: (u32, u32)) -> Kept
+        requires { time.1 < 256 }
+        ensures { entry_kept result ≡ entry_read (entry_kept self) time }
+    {
+        if (self.stamp, u32::from(self.reader)) < time {
+            Kept {
+                stamp: time.0,
+                reader: time.1 as u8,
+                ..self
+            }
+        } else {
+            self
         }
     }
 

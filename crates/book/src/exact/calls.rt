@@ -3,7 +3,7 @@ ghost use Rattle.std.specs.Prelude.{◌≡◌, ◌<◌, max};
 ghost use Rattle.protocol.specs.Limits.{line_limit};
 ghost use Rattle.book.specs.Meaning.{New};
 ghost use Rattle.book.specs.Exact.{exact, exact_new, entry_at, with_entry, FitsBy};
-ghost use Rattle.book.specs.Kept.{Small};
+ghost use Rattle.book.specs.Kept.{entry_kept, Small};
 ghost use Rattle.book.specs.Pages.{exact_page, good_page};
 ghost use Rattle.book.specs.ExactKeeps.{exact_keeps};
 
@@ -23,16 +23,38 @@ impl ExactBook {
         ExactBook { entries, latest: 0 }
     }
 
-    /// What the book has of a line; a line without a number is as one that no call named yet.
+    /// What the table has of a line; a line without a number is as one that no call named yet.
+    #[inline(always)]
+    fn kept(&self, line: u32) -> Kept
+        ensures { entry_kept result ≡ entry_at (exact_page self.now) line }
+    {
+        let kept = self.entries.get(line as usize).copied();
+        kept.unwrap_or(Kept::UNTOUCHED)
+    }
+
+    /// What the book has of a line.
+    #[inline(always)]
     fn at(&self, line: u32) -> Entry
         ensures value { result ≡ entry_at (exact_page self.now) line }
         ensures small { Small result }
     {
-        let kept = self.entries.get(line as usize).copied();
-        kept.unwrap_or(Kept::UNTOUCHED).entry()
+        self.kept(line).entry()
+    }
+
+    /// Sets what the table has of a line, and raises the latest stamp where it is earlier.
+    #[inline(always)]
+    fn keep(&mut self, line: u32, kept: Kept, stamp: u32)
+        requires inside { line < line_limit }
+        requires fits { FitsBy (max self.old.latest stamp) (entry_kept kept) }
+        ensures { exact_page self.new
+            ≡ with_entry (exact_page self.old) line (entry_kept kept) stamp }
+    {
+        self.entries[line as usize] = kept;
+        self.latest = self.latest.max(stamp);
     }
 
     /// Sets the entry of a line, and raises the latest stamp where it is earlier.
+    #[inline(always)]
     fn set(&mut self, line: u32, entry: Entry, stamp: u32)
         requires inside { line < line_limit }
         requires fits { FitsBy (max self.old.latest stamp) entry }
@@ -40,8 +62,7 @@ impl ExactBook {
         ensures { exact_page self.new
             ≡ with_entry (exact_page self.old) line entry stamp }
     {
-        self.entries[line as usize] = Kept::of(entry);
-        self.latest = self.latest.max(stamp);
+        self.keep(line, Kept::of(entry), stamp);
     }
 }
 
@@ -82,7 +103,7 @@ impl Book for ExactBook {
         if line >= LINES || !can_be(time) {
             return Err(Refused);
         }
-        self.set(line, self.at(line).read_at(time), time.0);
+        self.keep(line, self.kept(line).read_at(time), time.0);
         Ok(())
     }
 

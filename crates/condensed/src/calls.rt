@@ -193,6 +193,7 @@ impl Book for CondensedBook {
         line < LINES && self.has_room(self.slot_of(line))
     }
 
+    #[inline(always)]
     fn told(&self, line: u32) -> Told {
         let (entry, slot) = self.with_room(line);
         Told {

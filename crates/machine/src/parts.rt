@@ -16,6 +16,7 @@ use tables::row::Store;
 
 impl<M: Memory, B: Book> Machine<M, B> {
     /// What the book tells of a line.
+    #[inline(always)]
     pub(crate) fn told(&self, line: u32) -> Told
         ensures { told_as result ≡ told B.Book.kind (B.Book.model self.now.book) line }
     {
@@ -48,6 +49,7 @@ impl<M: Memory, B: Book> Machine<M, B> {
     }
 
     /// Notes a read of a line.
+    #[inline(always)]
     pub(crate) fn note(&mut self, warp: u32, line: u32)
         ensures { state M.Memory.at B.Book.kind B.Book.model self.new
             ≡ reads (state M.Memory.at B.Book.kind B.Book.model self.old) warp line }
@@ -59,6 +61,7 @@ impl<M: Memory, B: Book> Machine<M, B> {
 
     // Of the shape of `note`, but for the book's call: passed as a closure, its contract would say the call's again.
     /// Reserves a line for a warp's transaction.
+    #[inline(always)]
     pub(crate) fn reserve(&mut self, warp: u32, line: u32)
         ensures { state M.Memory.at B.Book.kind B.Book.model self.new
             ≡ reserving (state M.Memory.at B.Book.kind B.Book.model self.old) warp line }

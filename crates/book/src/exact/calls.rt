@@ -99,6 +99,7 @@ impl Book for ExactBook {
         self.latest
     }
 
+    #[inline(always)]
     fn note(&mut self, line: u32, time: (u32, u32)) -> Result<(), Refused> {
         if line >= LINES || !can_be(time) {
             return Err(Refused);
@@ -107,6 +108,7 @@ impl Book for ExactBook {
         Ok(())
     }
 
+    #[inline(always)]
     fn reserve(&mut self, line: u32, time: (u32, u32)) -> Result<(), Refused> {
         let entry = self.at(line);
         if line >= LINES || !can_be(time) || entry.stores() > 0 {

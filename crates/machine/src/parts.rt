@@ -40,6 +40,7 @@ impl<M: Memory, B: Book> Machine<M, B> {
 
     // A warp and a line, as in the next two, and no request: what is wanted of the line makes no difference to them.
     /// The last value that a warp logged for a line; the line's value if it logged none.
+    #[inline(never)]
     pub(crate) fn own_value(&self, warp: u32, line: u32) -> u32
         ensures { result ≡ own_value (state M.Memory.at B.Book.kind B.Book.model self.now) warp
             line }
@@ -99,6 +100,7 @@ impl<M: Memory, B: Book> Machine<M, B> {
     }
 
     /// Writes a warp's log to memory, in order.
+    #[inline(never)]
     pub(crate) fn write_back(&mut self, warp: u32)
         ensures { state M.Memory.at B.Book.kind B.Book.model self.new
             ≡ writes_back (state M.Memory.at B.Book.kind B.Book.model self.old) warp }

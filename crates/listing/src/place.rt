@@ -72,7 +72,7 @@ impl Front {
         ensures still { result ≤ end }
     {
         // All eight bytes are copied, which is quicker than those that count. What stands before them is written later.
-        copy_last(&mut page[..end], self.digits);
+        copy_before(page, end, self.digits);
         end - (8 - self.start)
     }
 
@@ -122,13 +122,23 @@ fn digits_of(number: u64) -> [u8; 2]
     TWO_DIGITS[number as usize]
 }
 
-/// Copies eight bytes to the end of some.
+/// Copies eight bytes before an end.
 #[inline(always)]
-fn copy_last(bytes: &mut [u8], last: [u8; 8])
-    requires { 8 ≤ length bytes.old }
-    ensures { drop (length bytes.old - 8) bytes.new ≡ last }
+fn copy_before(page: &mut [u8], end: usize, bytes: [u8; 8])
+    requires room { 8 ≤ end }
+    requires within { end ≤ length page.old }
+    ensures { drop (end - 8) page.new ≡ bytes ++ drop end page.old }
 {
-    if let Some(room) = bytes.last_chunk_mut() {
-        *room = last;
+    overwrite(&mut page[end - 8..end], bytes);
+}
+
+/// Writes eight bytes over eight others.
+#[inline(always)]
+fn overwrite(bytes: &mut [u8], by: [u8; 8])
+    requires { length bytes.old ≡ 8 }
+    ensures { bytes.new ≡ by }
+{
+    if let Some(room) = bytes.as_mut_array() {
+        *room = by;
     }
 }

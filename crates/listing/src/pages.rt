@@ -29,6 +29,7 @@ fn put_call_rows(page: &mut [u8], from: usize, calls: &[Call], answers: &[Answer
     ensures text { call_rows 1 (take from calls.now) (take from answers.now) ++ drop result page.new
         ≡ call_rows 1 calls.now answers.now }
 {
+    // By their numbers, since both slices are gone through from the end.
     let mut front = Front::of(calls.len() as u64);
     let mut start = page.len();
     for i in (from..calls.len()).rev() {

@@ -72,6 +72,7 @@ pub(crate) fn put_small(page: &mut [u8], end: usize, number: u32) -> usize
     ensures start { end ≤ result + 20 }
     ensures still { result ≤ end }
 {
+    // The same either way; asked first, it spares a short number the tests for longer ones.
     if number < 100 {
         return put_number(page, end, u64::from(number));
     }

@@ -33,7 +33,8 @@ pub struct Entry {
 pub fn comes_before(a: (u32, u32), b: (u32, u32)) -> bool
     ensures { result ≡ earlier a b }
 {
-    a < b
+    // What the order of pairs says, in fewer steps: an earlier warp counts only where the stamps are the same.
+    u64::from(a.0) < u64::from(b.0) + u64::from(a.1 < b.1)
 }
 
 /// Whether a call may name the time: no stamp past the end of the clock, no warp past the last.
@@ -56,9 +57,14 @@ impl Stamps {
     pub fn raised(self, other: Stamps) -> Stamps
         ensures { result ≡ raised self other }
     {
+        let read = if comes_before(self.read, other.read) {
+            other.read
+        } else {
+            self.read
+        };
         Stamps {
             write: self.write.max(other.write),
-            read: self.read.max(other.read),
+            read,
         }
     }
 
@@ -68,9 +74,14 @@ impl Stamps {
     pub fn least(self, other: Stamps) -> Stamps
         ensures { result ≡ least self other }
     {
+        let read = if comes_before(other.read, self.read) {
+            other.read
+        } else {
+            self.read
+        };
         Stamps {
             write: self.write.min(other.write),
-            read: self.read.min(other.read),
+            read,
         }
     }
 }

@@ -6,7 +6,7 @@ ghost use Rattle.book.specs.Exact.{Sound, page_of};
 ghost use Rattle.book.specs.Entries.{entry_read};
 ghost use Rattle.book.specs.Kept.{entry_kept, entries_kept, Small};
 
-use crate::entry::{Entry, Hold, Stamps};
+use crate::entry::{Entry, Hold, Stamps, comes_before};
 
 /// An entry as the table keeps it, in no more bytes than its numbers need: no warp and no count of stores is past 255.
 #[derive(Clone, Copy)]
@@ -50,7 +50,7 @@ impl Kept {
         requires { time.1 < 256 }
         ensures { entry_kept result ≡ entry_read (entry_kept self) time }
     {
-        if (self.stamp, u32::from(self.reader)) < time {
+        if comes_before((self.stamp, u32::from(self.reader)), time) {
             Kept {
                 stamp: time.0,
                 reader: time.1 as u8,

@@ -143,7 +143,7 @@ module _ (s : Exact) (good : exact.Good s) where
     told : Entry
     told = entry_at s line
 
-    keeps_note :
+    pub keeps_note :
         (t : Time) → exact.Good (exact.note s line t) × Notes exact s (exact.note s line t) line t
     unfolding told
     keeps_note t =

@@ -44,20 +44,15 @@ impl Kept {
         }
     }
 
-    /// The entry after a read.
+    /// Raises the mark to a read's time, where it is earlier. Nothing else is written.
     #[inline(always)]
-    fn read_at(self, time: (u32, u32)) -> Kept
+    fn read_at(&mut self, time: (u32, u32))
         requires { time.1 < 256 }
-        ensures { entry_kept result ≡ entry_read (entry_kept self) time }
+        ensures { entry_kept self.new ≡ entry_read (entry_kept self.old) time }
     {
         if comes_before((self.stamp, u32::from(self.reader)), time) {
-            Kept {
-                stamp: time.0,
-                reader: time.1 as u8,
-                ..self
-            }
-        } else {
-            self
+            self.stamp = time.0;
+            self.reader = time.1 as u8;
         }
     }
 

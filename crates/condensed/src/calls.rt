@@ -69,6 +69,7 @@ impl CondensedBook {
     }
 
     /// Whether there is a slot for a line, by the slot that it is in.
+    #[inline(always)]
     fn has_room(&self, inside: Option<Place>) -> bool
         ensures { result ≡ is_some (place_in self.now.slots (option_map place_at inside)) }
     {
@@ -208,6 +209,7 @@ impl Book for CondensedBook {
         self.latest
     }
 
+    #[inline(always)]
     fn note(&mut self, line: u32, time: (u32, u32)) -> Result<(), Refused> {
         if line >= LINES || !can_be(time) {
             return Err(Refused);

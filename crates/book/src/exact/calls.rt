@@ -3,6 +3,7 @@ ghost use Rattle.std.specs.Prelude.{◌≡◌, ◌<◌, max};
 ghost use Rattle.protocol.specs.Limits.{line_limit};
 ghost use Rattle.book.specs.Meaning.{New};
 ghost use Rattle.book.specs.Exact.{exact, exact_new, entry_at, with_entry, FitsBy};
+ghost use Rattle.book.specs.Entries.{entry_read};
 ghost use Rattle.book.specs.Kept.{entry_kept, Small};
 ghost use Rattle.book.specs.Pages.{exact_page, good_page};
 ghost use Rattle.book.specs.ExactKeeps.{exact_keeps};
@@ -39,6 +40,18 @@ impl ExactBook {
         ensures small { Small result }
     {
         self.kept(line).entry()
+    }
+
+    /// Notes a read of a line in the table, and raises the latest stamp where it is earlier.
+    #[inline(always)]
+    fn mark(&mut self, line: u32, time: (u32, u32))
+        requires inside { line < line_limit }
+        requires warp { time.1 < 256 }
+        ensures { exact_page self.new
+            ≡ with_entry (exact_page self.old) line (entry_read (entry_at (exact_page self.old) line) time) time.0 }
+    {
+        self.entries[line as usize].read_at(time);
+        self.latest = self.latest.max(time.0);
     }
 
     /// Sets what the table has of a line, and raises the latest stamp where it is earlier.
@@ -104,7 +117,7 @@ impl Book for ExactBook {
         if line >= LINES || !can_be(time) {
             return Err(Refused);
         }
-        self.keep(line, self.kept(line).read_at(time), time.0);
+        self.mark(line, time);
         Ok(())
     }
 

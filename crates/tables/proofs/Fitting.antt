@@ -1,5 +1,6 @@
 -- How the queue goes on fitting the rows, and that there is room for the request of a warp that does not wait.
-use Rattle.std.proofs.Common.{◌≡◌, ℕ, zero, suc, ◌+◌, ◌<◌, ◌≤◌, Bool, true, false, cond, ltb, List, [], ◌∷◌, ◌++◌, map, length, get_or, set, is_some, Some, sym, refl, ap, ◌∙◌, subst, arith}
+use Rattle.std.proofs.Common.{◌≡◌, ℕ, zero, suc, ◌+◌, ◌<◌, ◌≤◌, Bool, true, false, cond, eqb, ltb, List, [], ◌∷◌, ◌++◌, map, length, get_or, set, is_some, Some, None, Option, eqb-true, sym, refl, ap, ◌∙◌, subst, arith}
+use Rattle.std.specs.List.{remove, position_or_len}
 use Rattle.std.proofs.lemmas.List.{get_or-set_other, length-map, length-set}
 use Rattle.std.proofs.lemmas.Bool.Decides.{nat_tests}
 use Rattle.std.proofs.lemmas.Bool.{and_parts, and_from, both_ways, not-true, not_from_false}
@@ -12,7 +13,7 @@ use Rattle.rules.specs.declared.state.Request.{Request}
 use Rattle.tables.proofs.WarpRows.{warp_row_row, log_long}
 use Rattle.tables.specs.Pages.{warp_rows, queued, warp_row, has_room}
 use Rattle.tables.specs.Rows.{no_row, warp_row_in}
-use Rattle.tables.specs.Sound.{fits, sound, Sound}
+use Rattle.tables.specs.Sound.{fits, sound, Sound, lone}
 use Rattle.tables.specs.declared.row.Row.{Row}
 use Rattle.tables.specs.declared.state.Tables.{Tables}
 
@@ -95,6 +96,61 @@ sound_without rows (r ∷ rest) w s =
     let alone = asks_without rest w r.warp p.alone in
     let rest_sound = sound_without rows rest w p.sound_rest in
     grind (arith, nat_tests)
+
+-- No warp has two requests, so that its first is all that leaves.
+pub sound_lone : (rows : List Row) (q : List Request) → Sound rows q → lone q ≡ true
+sound_lone rows [] s = refl
+sound_lone rows (r ∷ rest) s =
+    let p = parts rows r rest s in
+    and_from _ _ (not_from_false _ p.alone) (sound_lone rows rest p.sound_rest)
+
+none_leaves : (q : List Request) (w : ℕ) → asks q w ≡ false → q ≡ without q w
+none_leaves [] w e = refl
+none_leaves (r ∷ rest) w e =
+    let n = asks_none r rest w e in
+    let h = none_leaves rest w n.1 in
+    grind (arith, nat_tests, n.0)
+
+abbrev pub place_of : List Request → ℕ → ℕ
+place_of q w = position_or_len (λ (r : Request). eqb r.warp w) q
+
+pub found_leaves : (q : List Request) (w : ℕ) → lone q ≡ true → remove q (place_of q w) ≡ without q w
+found_leaves [] w one = refl
+found_leaves (r ∷ rest) w one =
+    let parts = and_parts _ _ one in
+    let h = found_leaves rest w parts.1 in
+    let gone = λ (is : r.warp ≡ w). none_leaves rest w (ap (asks rest) (sym is) ∙ not-true _ parts.0) in
+    by (eqb r.warp w) refl h gone
+  where
+    by :
+        (b : Bool) → eqb r.warp w ≡ b → remove rest (place_of rest w) ≡ without rest w
+        → (r.warp ≡ w → rest ≡ without rest w)
+        → remove (r ∷ rest) (place_of (r ∷ rest) w) ≡ without (r ∷ rest) w
+    by true e h gone = rw e (gone (eqb-true _ _ e))
+    by false e h gone =
+        let next : 1 + place_of rest w ≡ suc (place_of rest w) = omega arith in
+        rw (e, next) (ap (λ xs. r ∷ xs) h)
+
+-- A warp that was not found has none.
+pub none_found : (q : List Request) (w : ℕ) → length q ≤ place_of q w → q ≡ without q w
+none_found [] w e = refl
+none_found (r ∷ rest) w e =
+    let h = none_found rest w in
+    by (eqb r.warp w) refl h e
+  where
+    by :
+        (b : Bool) → eqb r.warp w ≡ b → (length rest ≤ place_of rest w → rest ≡ without rest w)
+        → length (r ∷ rest) ≤ place_of (r ∷ rest) w → (r ∷ rest) ≡ without (r ∷ rest) w
+    by true is h e = absurd (let e2 = rw is at e in omega arith)
+    by false is h e = rw is (ap (λ xs. r ∷ xs) (h (let e2 = rw is at e in omega arith)))
+
+-- What the search for a place tells.
+module _ (place long : ℕ) (found : Option ℕ) (is : found ≡ cond (ltb place long) (Some place) None) where
+  pub place_found : (n : ℕ) → found ≡ Some n → n ≡ place
+  place_found n e = grind (arith, nat_tests)
+
+  pub no_place : found ≡ None → long ≤ place
+  no_place e = grind (arith, nat_tests)
 
 -- A request may come that fits its row, of a warp that has none.
 asks_push :

@@ -1,9 +1,10 @@
 //! The requests that wait: who waits for what, and whether there is room for one more.
-ghost use Rattle.std.specs.Prelude.{◌≡◌, ◌<◌, [], ◌∷◌, ◌++◌, length, nat_lt};
+ghost use Rattle.std.specs.Prelude.{◌≡◌, ◌<◌, true, [], ◌∷◌, ◌++◌, length, nat_le, nat_lt};
 ghost use Rattle.protocol.specs.Limits.{line_room, queue_room};
 ghost use Rattle.rules.specs.Lists.{push_new, distinct};
 ghost use Rattle.rules.specs.Queue.{request_of, without, requests_on, is_full};
 ghost use Rattle.tables.specs.Lists.{places, place_at, lines_waited};
+ghost use Rattle.tables.specs.Sound.{lone};
 
 use arrayvec::ArrayVec;
 use protocol::limits::{LINE_ROOM, QUEUE_ROOM};
@@ -75,6 +76,20 @@ impl Queue {
         self.requests.retain(|request| request.warp != warp);
     }
 
+    /// A warp's request leaves, where no warp has two: so the first that is found is all.
+    pub(crate) fn take_out_one(&mut self, warp: u32)
+        requires { lone (places self.old) ≡ true }
+        ensures { places self.new ≡ without (places self.old) warp }
+    {
+        let found = self
+            .requests
+            .iter()
+            .position(|request| request.warp == warp);
+        if let Some(place) = found {
+            self.requests.remove(place);
+        }
+    }
+
     /// Whether a request waits for a line.
     pub(crate) fn any_on(&self, line: u32) -> bool
         ensures { result ≡ nat_lt 0 (length (requests_on (places self.now) line)) }
@@ -103,12 +118,19 @@ impl Queue {
         lines.len()
     }
 
+    /// Whether as many lines are waited for as there may be at once. Fewer requests are of fewer lines.
+    fn has_all_lines(&self) -> bool
+        ensures { result ≡ nat_le queue_room (length (distinct (lines_waited (places self.now)))) }
+    {
+        self.len() >= QUEUE_ROOM && self.count_lines() >= QUEUE_ROOM
+    }
+
     /// Whether there is no room for one more request for a line: the line has all that it may have, or it has none
     /// while as many lines as may wait at once have some.
     pub fn is_full(&self, line: u32) -> bool
         ensures { result ≡ is_full line_room queue_room (places self.now) line }
     {
         let here = self.count_on(line);
-        here >= LINE_ROOM || (here == 0 && self.count_lines() >= QUEUE_ROOM)
+        here >= LINE_ROOM || (here == 0 && self.has_all_lines())
     }
 }

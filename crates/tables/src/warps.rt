@@ -1,12 +1,12 @@
 //! What the warps are doing, and what changes it.
-ghost use Rattle.std.specs.Prelude.{◌≡◌, ◌<◌, true, false, cond, [], ◌∷◌, ◌++◌, length, is_some, nat_lt, slice_set, MatchOption};
+ghost use Rattle.std.specs.Prelude.{◌≡◌, ◌<◌, true, false, cond, [], ◌∷◌, ◌++◌, ◌≤◌, map, length, is_some, nat_lt, slice_set, MatchOption};
 ghost use Rattle.protocol.specs.Limits.{line_room, queue_room, log_limit};
 ghost use Rattle.rules.specs.Ending.{logged_lines};
 ghost use Rattle.rules.specs.Queue.{request_of, requests_on, without, is_full, pending_at};
 ghost use Rattle.rules.specs.State.{idle_at, open_at, in_phase, logging, is_waiting};
 ghost use Rattle.rules.specs.declared.state.Phase.TheVariants.{Open, Waiting, Settled};
 ghost use Rattle.tables.specs.Lists.{place_at};
-ghost use Rattle.tables.specs.Rows.{log_of, lines_in, first_stores, warp_row_in};
+ghost use Rattle.tables.specs.Rows.{pair_of, log_of, lines_in, first_stores, warp_row_in};
 ghost use Rattle.tables.specs.Pages.{warp_rows, queued, warp_row, room_for, has_room, unless_waiting, if_room, may_wait};
 
 use crate::row::{Log, Row, Store};
@@ -44,12 +44,12 @@ impl Row {
         Log::of(self.len, &self.stores).unwrap()
     }
 
-    /// The first store of each line in the row's log, in their order.
-    fn firsts(&self) -> Log
-        ensures stores { log_of result ≡ first_stores (warp_row_in self.now).log }
-        ensures lines { lines_in (log_of result) ≡ logged_lines (warp_row_in self.now).log }
+    /// The stores of the row's log, in the order made.
+    fn logged(&self) -> &[Store]
+        ensures value { map pair_of result.now ≡ (warp_row_in self.now).log }
+        ensures room { length result.now ≤ log_limit }
     {
-        Log::firsts_of(&self.stores[..self.len])
+        &self.stores[..self.len]
     }
 
     /// Another phase.
@@ -126,15 +126,23 @@ impl Tables {
         }
     }
 
+    /// The stores that a warp has logged, in the order made.
+    pub fn logged(&self, warp: u32) -> &[Store]
+        ensures value { map pair_of result.now ≡ (warp_row self.now warp).log }
+        ensures room { length result.now ≤ log_limit }
+    {
+        match self.row(warp) {
+            Some(row) => row.logged(),
+            None => &[],
+        }
+    }
+
     /// The first store of each line in a warp's log, in their order.
     pub fn firsts(&self, warp: u32) -> Log
         ensures stores { log_of result ≡ first_stores (warp_row self.now warp).log }
         ensures lines { lines_in (log_of result) ≡ logged_lines (warp_row self.now warp).log }
     {
-        match self.row(warp) {
-            Some(row) => row.firsts(),
-            None => Log::new(),
-        }
+        Log::firsts_of(self.logged(warp))
     }
 
     /// A warp's request, if it has one.
@@ -322,7 +330,7 @@ impl Tables {
             (in_phase (warp_row self.old warp) (Settled outcome)) }
         ensures queue { queued self.new ≡ without (queued self.old) warp }
     {
-        self.queue.take_out(warp);
+        self.queue.take_out_one(warp);
         self.enter(warp, Phase::Settled { outcome });
     }
 }

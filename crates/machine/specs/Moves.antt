@@ -9,12 +9,11 @@ use Rattle.protocol.specs.declared.fault.Fault.{Fault}
 use Rattle.rules.specs.declared.state.Access.{Access}
 use Rattle.rules.specs.declared.state.Phase.TheVariants.{Waiting}
 use Rattle.rules.specs.declared.state.Request.{Request}
-use Rattle.memory.specs.Lines.{put}
 use Rattle.book.specs.Meaning.{Kind, released, taken}
 use Rattle.protocol.specs.Limits.{line_room, queue_room, log_limit, last_stamp}
 use Rattle.protocol.specs.declared.fault.Refusal.TheVariants.{LogFull, ClockSpent}
 use Rattle.rules.specs.Lists.{last_stored}
-use Rattle.rules.specs.State.{WarpRow, Machine, with_lines, with_book, with_warp_row, with_queue, in_phase, time_of, warp_row_of}
+use Rattle.rules.specs.State.{WarpRow, Machine, with_book, with_warp_row, with_queue, in_phase, time_of, warp_row_of}
 use Rattle.rules.specs.Access.{Verdict, lost, must_wait}
 use Rattle.rules.specs.Queue.{product, is_full}
 use Rattle.rules.specs.Ending.{Woken, settles, tries, wakes}
@@ -52,10 +51,6 @@ module _ {k : Kind} where
   -- A line reserved for a warp's transaction.
   abbrev pub reserving : Machine k → ℕ → ℕ → Machine k
   reserving m w line = with_book m (taken k m.book line (time_of m w))
-
-  -- A store written to memory.
-  abbrev pub writing : Machine k → ℕ × ℕ → Machine k
-  writing m s = with_lines m (put m.lines s.0 s.1)
 
   -- Lines released, one after another.
   abbrev pub releasing : Machine k → List ℕ → Machine k

@@ -3,9 +3,9 @@ ghost use Rattle.std.specs.Prelude.{◌≡◌, [], ◌∷◌, map};
 ghost use Rattle.rules.specs.Access.{told};
 ghost use Rattle.rules.specs.State.{time_of};
 ghost use Rattle.rules.specs.Serving.{memory_value, reads};
-ghost use Rattle.rules.specs.Steps.{writes_back};
+ghost use Rattle.rules.specs.Steps.{written, writes_back};
 ghost use Rattle.machine.specs.Meaning.{state};
-ghost use Rattle.machine.specs.Moves.{own_value, releasing, reserving, writing};
+ghost use Rattle.machine.specs.Moves.{own_value, releasing, reserving};
 ghost use Rattle.tables.specs.Rows.{pair_of, lines_in};
 ghost use Rattle.machine.specs.Verdicts.{told_as};
 
@@ -13,6 +13,15 @@ use crate::state::Machine;
 use book::record::{Book, Told};
 use memory::store::Memory;
 use tables::row::Store;
+
+/// Writes some logged stores to a memory, in order.
+fn write_all<M: Memory>(memory: &mut M, logged: &[Store])
+    ensures { M.Memory.at memory.new ≡ written (M.Memory.at memory.old) (map pair_of logged.now) }
+{
+    for store in logged {
+        let _ = memory.write(store.line, store.value);
+    }
+}
 
 impl<M: Memory, B: Book> Machine<M, B> {
     /// What the book tells of a line.
@@ -92,23 +101,12 @@ impl<M: Memory, B: Book> Machine<M, B> {
         }
     }
 
-    /// Writes a store to memory.
-    fn write(&mut self, store: Store)
-        ensures { state M.Memory.at B.Book.kind B.Book.model self.new
-            ≡ writing (state M.Memory.at B.Book.kind B.Book.model self.old) (pair_of store) }
-    {
-        let _ = self.memory.write(store.line, store.value);
-    }
-
     /// Writes a warp's log to memory, in order.
     #[inline(never)]
     pub(crate) fn write_back(&mut self, warp: u32)
         ensures { state M.Memory.at B.Book.kind B.Book.model self.new
             ≡ writes_back (state M.Memory.at B.Book.kind B.Book.model self.old) warp }
     {
-        let log = self.tables.log(warp);
-        for store in log.stores() {
-            self.write(*store);
-        }
+        write_all(&mut self.memory, self.tables.logged(warp));
     }
 }

@@ -34,7 +34,7 @@ impl<M: Memory, B: Book> Machine<M, B> {
     {
         let mut answers = Vec::with_capacity(heap, calls.len())?;
         for call in calls {
-            answers.push(self.call(*call))?;
+            answers.push_reserved(self.call(*call));
         }
         Ok(answers)
     }

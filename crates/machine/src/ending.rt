@@ -1,28 +1,55 @@
 //! The end of a transaction: all its lines are released first, then the requests that wait for them are tried.
-ghost use Rattle.std.specs.Prelude.{◌≡◌, false, map, fold};
+ghost use Rattle.std.specs.Prelude.{◌≡◌, ◌<◌, ◌≤◌, false, [], map, length, fold};
+ghost use Rattle.std.specs.List.{All};
+ghost use Rattle.protocol.specs.Limits.{line_limit, log_limit};
+ghost use Rattle.rules.specs.Lists.{push_new};
 ghost use Rattle.rules.specs.Queue.{product};
 ghost use Rattle.rules.specs.State.{is_waiting};
-ghost use Rattle.rules.specs.Ending.{ends};
+ghost use Rattle.rules.specs.Ending.{logged_lines, ends};
 ghost use Rattle.tables.specs.Pages.{warp_row};
-ghost use Rattle.tables.specs.Rows.{pair_of, lines_in};
+ghost use Rattle.tables.specs.Rows.{pair_of};
 ghost use Rattle.machine.specs.Meaning.{state};
 ghost use Rattle.machine.specs.Moves.{wake_at};
 
 use crate::state::Machine;
+use arrayvec::ArrayVec;
 use book::record::Book;
 use memory::store::Memory;
 use tables::row::Store;
 
+/// A line joins others, unless it is there.
+#[tactic(auto, using(crate::proofs::Ended::line_found))]
+fn add_line(lines: &mut ArrayVec<u32, 32>, line: u32)
+    requires { length lines.old.items < 32 }
+    ensures { lines.new.items ≡ push_new lines.old.items line }
+{
+    if !lines.contains(&line) {
+        lines.push(line);
+    }
+}
+
+// Into a list of the caller's, which no return has to copy.
+/// The lines of some logged stores, each once, in the order of their first store.
+fn list_lines(logged: &[Store], lines: &mut ArrayVec<u32, 32>)
+    requires few { length logged.now ≤ log_limit }
+    requires none { lines.old.items ≡ [] }
+    ensures { lines.new.items ≡ logged_lines (map pair_of logged.now) }
+{
+    for store in logged {
+        add_line(lines, store.line);
+    }
+}
+
 impl<M: Memory, B: Book> Machine<M, B> {
     // Of the shape of `release_all`: with the call as a closure, its contract would say the same of the closure.
-    /// Tries the requests that wait for the lines of some stores, line by line.
-    fn wake_all(&mut self, stores: &[Store])
+    /// Tries the requests that wait for some lines, line by line.
+    fn wake_all(&mut self, lines: &[u32])
+        requires { All (λ line. line < line_limit) lines.now }
         ensures { state M.Memory.at B.Book.kind B.Book.model self.new
-            ≡ fold wake_at (state M.Memory.at B.Book.kind B.Book.model self.old)
-            (lines_in (map pair_of stores.now)) }
+            ≡ fold wake_at (state M.Memory.at B.Book.kind B.Book.model self.old) lines.now }
     {
-        for store in stores {
-            self.wake(store.line);
+        for line in lines {
+            self.wake(*line);
         }
     }
 
@@ -34,11 +61,12 @@ impl<M: Memory, B: Book> Machine<M, B> {
             ≡ (ends (product B.Book.kind) (state M.Memory.at B.Book.kind B.Book.model self.old)
             warp stamp).machine }
     {
-        let firsts = self.tables.firsts(warp);
-        let stores = firsts.stores();
-        self.release_all(stores);
+        let mut lines = ArrayVec::new();
+        list_lines(self.tables.logged(warp), &mut lines);
+        let lines = lines.as_slice();
+        self.release_all(lines);
         self.tables.rest(warp, stamp);
-        self.wake_all(stores);
+        self.wake_all(lines);
     }
 
     /// Ends a warp's transaction: the warp is idle at a stamp.

@@ -6,7 +6,7 @@ ghost use Rattle.rules.specs.Serving.{memory_value, reads};
 ghost use Rattle.rules.specs.Steps.{written, writes_back};
 ghost use Rattle.machine.specs.Meaning.{state};
 ghost use Rattle.machine.specs.Moves.{own_value, releasing, reserving};
-ghost use Rattle.tables.specs.Rows.{pair_of, lines_in};
+ghost use Rattle.tables.specs.Rows.{pair_of};
 ghost use Rattle.machine.specs.Verdicts.{told_as};
 
 use crate::state::Machine;
@@ -90,14 +90,13 @@ impl<M: Memory, B: Book> Machine<M, B> {
         let _ = self.book.release(line);
     }
 
-    /// Releases the lines of some stores, one after another.
-    pub(crate) fn release_all(&mut self, stores: &[Store])
+    /// Releases some lines, one after another.
+    pub(crate) fn release_all(&mut self, lines: &[u32])
         ensures { state M.Memory.at B.Book.kind B.Book.model self.new
-            ≡ releasing (state M.Memory.at B.Book.kind B.Book.model self.old)
-            (lines_in (map pair_of stores.now)) }
+            ≡ releasing (state M.Memory.at B.Book.kind B.Book.model self.old) lines.now }
     {
-        for store in stores {
-            self.release(store.line);
+        for line in lines {
+            self.release(*line);
         }
     }
 

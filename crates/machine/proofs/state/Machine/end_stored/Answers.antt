@@ -1,12 +1,16 @@
--- At rest where nothing was stored; else released, at rest, and then woken.
-use Rattle.std.proofs.Common.{map, ap, ◌∙◌}
+-- Released, at rest, and then woken.
+use Rattle.std.proofs.Common.{sym, ap, ◌∙◌, subst}
+use Rattle.rules.specs.Ending.{logged_lines}
 use Rattle.rules.specs.State.{Machine, warp_row_at, is_waiting}
 use Rattle.tables.specs.Pages.{warp_rows, queued}
-use Rattle.tables.specs.Rows.{pair_of, lines_in}
 use Rattle.machine.specs.Meaning.{state}
-use Rattle.machine.proofs.Ended.{ended_is}
+use Rattle.machine.proofs.Ended.{Inside, ended_is, inside_lines}
 use Rattle.machine.proofs.Free.{changed}
 use Rattle.machine.proofs.state.Machine.end_stored.Goals as goal
+
+pub wake_all-requires : goal.wake_all-requires
+wake_all-requires g c =
+    subst Inside (sym (c.as_slice-lines.ensures.value ∙ c.list_lines.ensures)) (inside_lines c.logged.result.now)
 
 pub returns : goal.returns
 returns g c =
@@ -14,8 +18,9 @@ returns g c =
     let mid = state g.M.Memory.at g.B.Book.kind g.B.Book.model c.release_all.new.self in
     let free = ap (λ (x : Machine _). is_waiting (warp_row_at x.warp_rows c.args.warp).phase) c.release_all.ensures
     ∙ c.requires in
-    let is = ap lines_in c.stores-stores.ensures.value ∙ c.firsts-firsts.ensures.lines in
+    let is = c.as_slice-lines.ensures.value ∙ c.list_lines.ensures ∙ ap logged_lines c.logged.ensures.value in
     ended_is m c.args.warp c.args.stamp
     mid (state g.M.Memory.at g.B.Book.kind g.B.Book.model c.wake_all.new.self)
-    (warp_rows c.rest.new.self) (queued c.rest.new.self) (lines_in (map pair_of c.stores-stores.result.now)) is
-    c.release_all.ensures (c.rest.ensures.warp_rows ∙ changed mid.warp_rows c.args.warp _ free) c.rest.ensures.queue c.wake_all.ensures
+    (warp_rows c.rest.new.self) (queued c.rest.new.self) c.as_slice-lines.result.now is
+    c.release_all.ensures (c.rest.ensures.warp_rows ∙ changed mid.warp_rows c.args.warp _ free) c.rest.ensures.queue
+    c.wake_all.ensures

@@ -159,7 +159,9 @@ impl Tables {
         self.queue.place(n)
     }
 
+    // A call of its own, so that who seldom asks does without room for a list of lines.
     /// Whether the queue has no room for one more request for a line.
+    #[inline(never)]
     pub fn is_full(&self, line: u32) -> bool
         ensures { result ≡ is_full line_room queue_room (queued self.now) line }
     {

@@ -2,7 +2,7 @@
 ghost use Rattle.std.specs.Prelude.{◌≡◌, ◌<◌, ◌≤◌, false, [], map, length, fold};
 ghost use Rattle.std.specs.List.{All};
 ghost use Rattle.protocol.specs.Limits.{line_limit, log_limit};
-ghost use Rattle.rules.specs.Lists.{push_new};
+ghost use Rattle.rules.specs.Lists.{has, push_new};
 ghost use Rattle.rules.specs.Queue.{product};
 ghost use Rattle.rules.specs.State.{is_waiting};
 ghost use Rattle.rules.specs.Ending.{logged_lines, ends};
@@ -17,13 +17,20 @@ use book::record::Book;
 use memory::store::Memory;
 use tables::row::Store;
 
+// A search from the first on: most lists are of a line or two, for which `contains` does more than it saves.
+/// Whether a line is among others.
+fn is_listed(lines: &[u32], line: u32) -> bool
+    ensures { result ≡ has line lines.now }
+{
+    lines.iter().any(|listed| *listed == line)
+}
+
 /// A line joins others, unless it is there.
-#[tactic(auto, using(crate::proofs::Ended::line_found))]
 fn add_line(lines: &mut ArrayVec<u32, 32>, line: u32)
     requires { length lines.old.items < 32 }
     ensures { lines.new.items ≡ push_new lines.old.items line }
 {
-    if !lines.contains(&line) {
+    if !is_listed(lines.as_slice(), line) {
         lines.push(line);
     }
 }

@@ -53,19 +53,25 @@ impl Stamps {
         read: (0, 0),
     };
 
+    /// Raises each to the other's, where it is earlier. What is not earlier is not written.
+    #[inline(always)]
+    pub fn raise(&mut self, other: Stamps)
+        ensures { self.new ≡ raised self.old other }
+    {
+        if self.write < other.write {
+            self.write = other.write;
+        }
+        if comes_before(self.read, other.read) {
+            self.read = other.read;
+        }
+    }
+
     /// The later of each.
-    pub fn raised(self, other: Stamps) -> Stamps
+    pub fn raised(mut self, other: Stamps) -> Stamps
         ensures { result ≡ raised self other }
     {
-        let read = if comes_before(self.read, other.read) {
-            other.read
-        } else {
-            self.read
-        };
-        Stamps {
-            write: self.write.max(other.write),
-            read,
-        }
+        self.raise(other);
+        self
     }
 
     // The twin of `raised`, but for which is taken: a rule of choice as a parameter would have to choose among numbers

@@ -151,6 +151,7 @@ impl CondensedBook {
     }
 
     /// Notes a read of a line that is in no slot.
+    #[inline(always)]
     fn note_outside(&mut self, line: u32, time: (u32, u32))
         ensures { condensed_page self.new
             ≡ note_in (condensed_page self.old) line time None }

@@ -55,6 +55,7 @@ impl Filter {
     }
 
     /// Raises four entries to stamps, where they are earlier.
+    #[inline(always)]
     #[tactic(auto, unfolding(crate::specs::Filter::filter_raised))]
     pub(crate) fn raise(&mut self, four: [usize; 4], stamps: Stamps)
         requires { Inside four }
@@ -78,10 +79,11 @@ impl Filter {
         }
     }
 
+    #[inline(always)]
     fn raise_at(&mut self, place: usize, stamps: Stamps)
         requires { place < 256 }
         ensures { self.new.entries ≡ raised_at self.old.entries place stamps }
     {
-        self.entries[place] = self.entries[place].raised(stamps);
+        self.entries[place].raise(stamps);
     }
 }

@@ -47,7 +47,7 @@ impl<M: Memory, B: Book> Machine<M, B> {
         self.memory.read(line).unwrap_or(0)
     }
 
-    // A call of its own, as `write_back` is: so the loop of a run's calls does without room for a log.
+    // A call of its own, so that the loop of a run's calls does without room for a log.
     // A warp and a line, as in the next two, and no request: what is wanted of the line makes no difference to them.
     /// The last value that a warp logged for a line; the line's value if it logged none.
     #[inline(never)]
@@ -100,6 +100,7 @@ impl<M: Memory, B: Book> Machine<M, B> {
         }
     }
 
+    // A call of its own, which leaves the loop of a run's calls more registers.
     /// Writes a warp's log to memory, in order.
     #[inline(never)]
     pub(crate) fn write_back(&mut self, warp: u32)

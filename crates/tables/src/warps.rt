@@ -327,6 +327,7 @@ impl Tables {
     }
 
     /// A request comes out: it leaves the queue, and its warp has an outcome to fetch.
+    #[inline(always)]
     pub fn settle(&mut self, warp: u32, outcome: Outcome)
         ensures warp_rows { warp_rows self.new ≡ slice_set (warp_rows self.old) warp
             (in_phase (warp_row self.old warp) (Settled outcome)) }

@@ -13,19 +13,19 @@ use protocol::call::Call;
 use std::alloc::AllocError;
 
 /// How many rows a page has room for.
-const ROWS: usize = 32;
+const ROWS: usize = 64;
 
 /// The bytes of a page.
 const PAGE: usize = ROWS * ROOM;
 
 /// Writes the rows of some calls from a place on.
 fn put_call_rows(page: &mut [u8], from: usize, calls: &[Call], answers: &[Answer]) -> usize
-    requires page { length page.old ≡ 3072 }
+    requires page { length page.old ≡ 6144 }
     requires pairs { length answers.now ≡ length calls.now }
     requires from { from ≤ length calls.now }
-    requires few { length calls.now ≤ from + 32 }
+    requires few { length calls.now ≤ from + 64 }
     ensures utf8 { IsUtf8 (drop result page.new) }
-    ensures within { result ≤ 3072 }
+    ensures within { result ≤ 6144 }
     ensures text { call_rows 1 (take from calls.now) (take from answers.now) ++ drop result page.new
         ≡ call_rows 1 calls.now answers.now }
 {
@@ -93,11 +93,11 @@ fn put_mem_rows<M: Memory, B: Book>(
     from: u32,
     to: u32,
 ) -> usize
-    requires page { length page.old ≡ 3072 }
+    requires page { length page.old ≡ 6144 }
     requires from { from ≤ to }
-    requires few { to ≤ from + 32 }
+    requires few { to ≤ from + 64 }
     ensures utf8 { IsUtf8 (drop result page.new) }
-    ensures within { result ≤ 3072 }
+    ensures within { result ≤ 6144 }
     ensures text { mem_rows (M.Memory.at machine.now.memory) from ++ drop result page.new
         ≡ mem_rows (M.Memory.at machine.now.memory) to }
 {

@@ -1,5 +1,5 @@
 //! Rows by the page: a page is written from its last row to its first, and then added to a text at once.
-ghost use Rattle.std.specs.Prelude.{◌≡◌, ◌+◌, ◌≤◌, ◌++◌, length, take, drop, IsUtf8, OnOk, string_bytes};
+ghost use Rattle.std.specs.Prelude.{◌≡◌, ◌+◌, ◌<◌, ◌≤◌, ◌++◌, length, take, drop, IsUtf8, OnOk, string_bytes};
 ghost use Rattle.listing.specs.Listing.{call_rows, line_row, mem_rows};
 
 use crate::place::Front;
@@ -12,33 +12,37 @@ use protocol::answer::Answer;
 use protocol::call::Call;
 use std::alloc::AllocError;
 
-/// How many rows a page has room for.
-const ROWS: usize = 64;
+/// How many rows a page has room for: two pages take a hundred rows.
+const ROWS: usize = 50;
 
 /// The bytes of a page.
 const PAGE: usize = ROWS * ROOM;
 
-/// Writes the rows of some calls from a place on.
-fn put_call_rows(page: &mut [u8], from: usize, calls: &[Call], answers: &[Answer]) -> usize
-    requires page { length page.old ≡ 6144 }
+/// Writes the rows of some calls from a place on, all of one hundred.
+fn put_call_rows(
+    page: &mut [u8],
+    front: &Front,
+    from: usize,
+    calls: &[Call],
+    answers: &[Answer],
+) -> usize
+    requires page { length page.old ≡ 4800 }
     requires pairs { length answers.now ≡ length calls.now }
     requires from { from ≤ length calls.now }
-    requires few { length calls.now ≤ from + 64 }
+    requires few { length calls.now ≤ from + 50 }
+    requires first { front.now.first ≤ from + 1 }
+    requires last { length calls.now < front.now.first + 100 }
     ensures utf8 { IsUtf8 (drop result page.new) }
-    ensures within { result ≤ 6144 }
+    ensures within { result ≤ 4800 }
     ensures text { call_rows 1 (take from calls.now) (take from answers.now) ++ drop result page.new
         ≡ call_rows 1 calls.now answers.now }
 {
     // By their numbers, since both slices are gone through from the end.
-    let mut front = Front::of(calls.len() as u64);
+    let first = front.first();
     let mut start = page.len();
     for i in (from..calls.len()).rev() {
-        let place = i as u64 + 1;
-        if place < front.first() {
-            front = Front::of(place);
-        }
         start = put_call(page, start, calls[i], answers[i]);
-        start = front.put_place(page, start, place - front.first());
+        start = front.put_place(page, start, i as u64 + 1 - first);
     }
     start
 }
@@ -56,8 +60,9 @@ pub(crate) fn add_call_rows(
     let mut page = [0; PAGE];
     let mut from = 0;
     while from < count {
-        let to = from + (count - from).min(ROWS);
-        let start = put_call_rows(&mut page, from, &calls[..to], &answers[..to]);
+        let front = Front::of(from as u64 + 1);
+        let to = count.min(from + ROWS).min(front.first() as usize + 99);
+        let start = put_call_rows(&mut page, &front, from, &calls[..to], &answers[..to]);
         text.push_str(text_from(&page, start))?;
         from = to;
     }
@@ -93,11 +98,11 @@ fn put_mem_rows<M: Memory, B: Book>(
     from: u32,
     to: u32,
 ) -> usize
-    requires page { length page.old ≡ 6144 }
+    requires page { length page.old ≡ 4800 }
     requires from { from ≤ to }
-    requires few { to ≤ from + 64 }
+    requires few { to ≤ from + 50 }
     ensures utf8 { IsUtf8 (drop result page.new) }
-    ensures within { result ≤ 6144 }
+    ensures within { result ≤ 4800 }
     ensures text { mem_rows (M.Memory.at machine.now.memory) from ++ drop result page.new
         ≡ mem_rows (M.Memory.at machine.now.memory) to }
 {

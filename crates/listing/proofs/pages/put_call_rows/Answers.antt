@@ -1,9 +1,8 @@
-use Rattle.std.proofs.Common.{rules, ◌≡◌, ◌+◌, ◌-◌, ◌≤◌, ◌++◌, take, drop, ap, ◌∙◌, arith}
+use Rattle.std.proofs.Common.{rules, ◌≡◌, ◌+◌, ◌-◌, ◌++◌, take, drop, ap, ◌∙◌, arith}
 use Rattle.protocol.specs.declared.answer.Answer.TheVariants.{Ok}
 use Rattle.protocol.specs.declared.call.Op.TheVariants.{Begin}
 use Rattle.listing.specs.Listing.{call_rows}
 use Rattle.listing.proofs.CallRows.{row_before, row_put}
-use Rattle.listing.proofs.pages.put_call_rows.Goals.{then-place-first, else-place-first}
 use Rattle.listing.proofs.pages.put_call_rows.Goals as goal
 
 pub loop-i-preserved : goal.loop-i-preserved
@@ -12,21 +11,16 @@ loop-i-preserved c =
     let more = c.loop-i-test.true in
     let within = c.loop-i.auto.i in
     let pairs = c.requires.pairs in
-    let first : c.if-place-first.front.first ≤ c.loop-i.i - 1 + 1 =
-    elim c.if-place-first.branch [
-      | then-place-first w ↦ let e = ap (λ front. front.first) w.front-is in let is = w.of-front-then-place-first.ensures in omega arith
-      | else-place-first w ↦ let e = ap (λ front. front.first) w.front-is in let not = w.if-place-first.false in let is = c.first.ensures in omega arith
-    ] in
     record {
       utf8 = c.put_place-start.ensures.utf8;
       from = omega arith;
       within = search rules;
       room = search rules;
       page = search rules;
-      near = search rules;
       text = row_before (record { warp = 0; op = Begin }) Ok c.loop-i.i c.args.calls.now c.args.answers.now _ _ _
           (omega arith) within (omega arith)
-          (row_put c.if-place-first.front.first c.first-in-loop-i.result (c.loop-i.i - 1 + 1) _ _ _ _ _ c.first-in-loop-i.ensures first c.put_call-start.ensures.text c.put_place-start.ensures.text)
+          (row_put c.args.front.now.first c.first-first.result (c.loop-i.i - 1 + 1) _ _ _ _ _ c.first-first.ensures
+          (omega (arith, c.requires.first)) c.put_call-start.ensures.text c.put_place-start.ensures.text)
           inv.text;
     }
 

@@ -1,4 +1,4 @@
-use Rattle.std.proofs.Common.{◌≡◌, ◌+◌, ◌*◌, ◌-◌, ◌<◌, ◌≤◌, ◌++◌, length, take, drop}
+use Rattle.std.proofs.Common.{◌≡◌, ◌+◌, ◌*◌, ◌-◌, ◌≤◌, ◌++◌, length, take, drop}
 use Rattle.std.specs.Prelude.{IsUtf8}
 use Rattle.listing.specs.Listing.{call_rows}
 use Rattle.listing.proofs.pages.put_call_rows.Given as goal
@@ -8,9 +8,8 @@ abbrev pub invariant-loop-i : goal.invariant-loop-i
 invariant-loop-i l = record {
   utf8 : IsUtf8 (drop l.start l.page);
   from : l.from ≤ l.i;
-  within : l.start ≤ 6144;
-  room : 6144 ≤ l.start + 96 * (length l.calls - l.i);
-  page : length l.page ≡ 6144;
-  near : l.i < l.front.first + 100;
+  within : l.start ≤ 4800;
+  room : 4800 ≤ l.start + 96 * (length l.calls - l.i);
+  page : length l.page ≡ 4800;
   text : call_rows 1 (take l.i l.calls) (take l.i l.answers) ++ drop l.start l.page ≡ call_rows 1 l.calls l.answers;
 }

@@ -9,8 +9,8 @@ invariant-loop-line g l = record {
   utf8 : IsUtf8 (drop l.start l.page);
   from : l.from ≤ l.line;
   to : l.line ≤ l.to;
-  within : l.start ≤ 6144;
-  room : 6144 ≤ l.start + 96 * (l.to - l.line);
-  page : length l.page ≡ 6144;
+  within : l.start ≤ 4800;
+  room : 4800 ≤ l.start + 96 * (l.to - l.line);
+  page : length l.page ≡ 4800;
   text : mem_rows (g.M.Memory.at l.machine.memory) l.line ++ drop l.start l.page ≡ mem_rows (g.M.Memory.at l.machine.memory) l.to;
 }

@@ -60,7 +60,22 @@ impl<M: Memory, B: Book> Machine<M, B> {
         }
     }
 
-    /// Ends a transaction that has stores: first all are released, last those are tried that wait for their lines.
+    /// Ends a transaction by the lines of its stores: first all are released, last those are tried that wait for them.
+    #[inline(always)]
+    fn end_of(&mut self, warp: u32, stamp: u64, lines: &[u32])
+        requires free { is_waiting (warp_row self.old.tables warp).phase ≡ false }
+        requires lines { lines.now ≡ logged_lines (warp_row self.old.tables warp).log }
+        requires inside { All (λ line. line < line_limit) lines.now }
+        ensures { state M.Memory.at B.Book.kind B.Book.model self.new
+            ≡ (ends (product B.Book.kind) (state M.Memory.at B.Book.kind B.Book.model self.old)
+            warp stamp).machine }
+    {
+        self.release_all(lines);
+        self.tables.rest(warp, stamp);
+        self.wake_all(lines);
+    }
+
+    /// Ends a transaction that has stores. Most have one, whose line needs no list.
     #[inline(never)]
     fn end_stored(&mut self, warp: u32, stamp: u64)
         requires { is_waiting (warp_row self.old.tables warp).phase ≡ false }
@@ -68,12 +83,15 @@ impl<M: Memory, B: Book> Machine<M, B> {
             ≡ (ends (product B.Book.kind) (state M.Memory.at B.Book.kind B.Book.model self.old)
             warp stamp).machine }
     {
-        let mut lines = ArrayVec::new();
-        list_lines(self.tables.logged(warp), &mut lines);
-        let lines = lines.as_slice();
-        self.release_all(lines);
-        self.tables.rest(warp, stamp);
-        self.wake_all(lines);
+        let logged = self.tables.logged(warp);
+        if let [store] = logged {
+            let line = [store.line];
+            self.end_of(warp, stamp, &line);
+        } else {
+            let mut lines = ArrayVec::new();
+            list_lines(logged, &mut lines);
+            self.end_of(warp, stamp, lines.as_slice());
+        }
     }
 
     /// Ends a warp's transaction: the warp is idle at a stamp.

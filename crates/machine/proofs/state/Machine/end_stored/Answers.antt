@@ -1,26 +1,8 @@
--- Released, at rest, and then woken.
-use Rattle.std.proofs.Common.{sym, ap, ◌∙◌, subst}
-use Rattle.rules.specs.Ending.{logged_lines}
-use Rattle.rules.specs.State.{Machine, warp_row_at, is_waiting}
-use Rattle.tables.specs.Pages.{warp_rows, queued}
-use Rattle.machine.specs.Meaning.{state}
-use Rattle.machine.proofs.Ended.{Inside, ended_is, inside_lines}
-use Rattle.machine.proofs.Free.{changed}
+-- The lines of stores are all below the limit.
+use Rattle.std.proofs.Common.{sym, ◌∙◌, subst}
+use Rattle.machine.proofs.Ended.{Inside, inside_lines}
 use Rattle.machine.proofs.state.Machine.end_stored.Goals as goal
 
-pub wake_all-requires : goal.wake_all-requires
-wake_all-requires g c =
-    subst Inside (sym (c.as_slice-lines.ensures.value ∙ c.list_lines.ensures)) (inside_lines c.logged.result.now)
-
-pub returns : goal.returns
-returns g c =
-    let m = state g.M.Memory.at g.B.Book.kind g.B.Book.model c.args.self.now in
-    let mid = state g.M.Memory.at g.B.Book.kind g.B.Book.model c.release_all.new.self in
-    let free = ap (λ (x : Machine _). is_waiting (warp_row_at x.warp_rows c.args.warp).phase) c.release_all.ensures
-    ∙ c.requires in
-    let is = c.as_slice-lines.ensures.value ∙ c.list_lines.ensures ∙ ap logged_lines c.logged.ensures.value in
-    ended_is m c.args.warp c.args.stamp
-    mid (state g.M.Memory.at g.B.Book.kind g.B.Book.model c.wake_all.new.self)
-    (warp_rows c.rest.new.self) (queued c.rest.new.self) c.as_slice-lines.result.now is
-    c.release_all.ensures (c.rest.ensures.warp_rows ∙ changed mid.warp_rows c.args.warp _ free) c.rest.ensures.queue
-    c.wake_all.ensures
+pub end_of-requires-in_default-clause-inside : goal.end_of-requires-in_default-clause-inside
+end_of-requires-in_default-clause-inside g c =
+    subst Inside (sym (c.as_slice.ensures.value ∙ c.list_lines.ensures)) (inside_lines c.logged-logged.result.now)

@@ -1,14 +1,15 @@
 -- The row of a warp that does not wait may change: it has no request.
 use Rattle.std.proofs.Common.{◌<◌, length, ap, ◌∙◌, rules}
-use Rattle.rules.specs.State.{WarpRow, logging}
+use Rattle.rules.specs.State.{WarpRow}
+use Rattle.tables.specs.Rows.{log_of}
 use Rattle.tables.proofs.Fitting.{free, row_set}
 use Rattle.tables.proofs.WarpRows.{warp_row_here, warp_rows_set}
-use Rattle.tables.proofs.state.Tables.add_store.Goals as goal
+use Rattle.tables.proofs.state.Tables.write_back.Goals as goal
 
 pub invariant_of-self : goal.invariant_of-self
 invariant_of-self c =
     let t = c.args.self.now in
-    let set = row_set t c.args.warp c.log_store.new.self (free t c.args.warp c.requires.free) in
+    let set = row_set t c.args.warp c.write_back.new.self (free t c.args.warp c.requires) in
     record { count = set.0; sound = set.1 }
 
 pub returns-in-Some-clause-warp_rows : goal.returns-in-Some-clause-warp_rows
@@ -16,5 +17,5 @@ returns-in-Some-clause-warp_rows c =
     let rows = c.args.self.now.rows.items in
     let low : c.args.warp < length rows = search rules in
     let here = warp_row_here rows c.args.warp c.in-Some.row.now low c.in-Some.ensures.value in
-    warp_rows_set rows c.args.warp c.log_store.new.self _
-    (c.log_store.ensures ∙ ap (λ (l : WarpRow). logging l c.args.store.line c.args.store.value) here)
+    warp_rows_set rows c.args.warp c.write_back.new.self _
+    (c.write_back.ensures ∙ ap (λ (l : WarpRow). record l { log = log_of c.args.log }) here)

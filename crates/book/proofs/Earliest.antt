@@ -1,6 +1,6 @@
 -- No book tells earlier stamps than the exact one.
-use Rattle.std.proofs.Common.{◌≡◌, ℕ, ◌+◌, ◌<◌, ◌≤◌, Bool, true, false, cond, not, ◌&&◌, eqb, ltb, List, [], ◌∷◌, length, Ok, Err, sym, refl, ap, ◌∙◌, subst, arith}
-use Rattle.std.proofs.lemmas.Bool.{cond-true, and_parts, and_from, lt-ltb, ltb-true}
+use Rattle.std.proofs.Common.{◌≡◌, ℕ, ◌+◌, ◌<◌, ◌≤◌, max, Bool, true, false, cond, not, ◌&&◌, eqb, ltb, leb, List, [], ◌∷◌, length, Ok, Err, sym, refl, ap, ◌∙◌, subst, arith}
+use Rattle.std.proofs.lemmas.Bool.{cond-true, and_parts, and_from, lt-ltb, ltb-true, leb-true, leb-false}
 use Rattle.protocol.specs.Limits.{line_limit, log_limit}
 use Rattle.book.specs.Time.{earlier}
 use Rattle.book.specs.Meaning.{Kind, Keeps, New, Grows, can_note, reserved}
@@ -13,9 +13,31 @@ use Rattle.book.specs.declared.refused.Refused.{Refused}
 use Rattle.book.specs.declared.entry.Entry.{Entry}
 use Rattle.book.specs.declared.call.BookCall.{BookCall}
 use Rattle.book.specs.declared.call.BookCall.TheVariants.{Note, Reserve, Add, Release}
-use Rattle.book.specs.Order.{mark_chain, mark_first, later_least}
+use Rattle.book.specs.Order.{mark_chain, mark_first, later_least, later_second, stamp_no_less}
 use Rattle.book.specs.Tables.{set_cases}
-use Rattle.book.specs.ExactKeeps.{exact_keeps, good_new, new_entry, numbered, stores_by}
+use Rattle.book.specs.ExactKeeps.{exact_keeps, good_new, new_entry, numbered, stores_by, told_here}
+
+-- The exact book's latest stamp is told: no stamp of some line is smaller than it.
+Told : Exact → Type 0
+Told e = (n : ℕ) × (n < line_limit) × (e.latest ≤ max (entry_at e n).stamps.write (entry_at e n).stamps.read.0)
+
+module _ (e : Exact) (fine : exact.Good e) (line : ℕ) (lt : line < line_limit) (x : Entry) (stamp : ℕ) where
+  told_with :
+      Grows exact e (with_entry e line x stamp) → stamp ≤ max x.stamps.write x.stamps.read.0 → Told e
+      → Told (with_entry e line x stamp)
+  unfolding Told
+  told_with grows has told = by (leb stamp e.latest) refl
+    where
+      by : (b : Bool) → leb stamp e.latest ≡ b → Told (with_entry e line x stamp)
+      by true up =
+          let more = leb-true stamp e.latest up in
+          let w = grows.stamp_grows told.0 told.1 in
+          let after : Entry = entry_at (with_entry e line x stamp) told.0 in
+          let r = stamp_no_less (entry_at e told.0).stamps.read after.stamps.read (grows.mark_grows told.0 told.1) in
+          (told.0, told.1, (let was = told.2 in omega arith))
+      by false up =
+          let less = leb-false stamp e.latest up in
+          (line, lt, rw (told_here e fine line lt x stamp) (omega arith))
 
 module _ (k : Kind) (keeps : Keeps k) where
   -- What stays true of the two books: the exact one is no later, and both count the same stores.
@@ -25,16 +47,18 @@ module _ (k : Kind) (keeps : Keeps k) where
     stamps : (n : ℕ) → n < line_limit → (entry_at e n).stamps.write ≤ k.write_stamp s n
     marks : (n : ℕ) → n < line_limit → earlier (k.read_mark s n) (entry_at e n).stamps.read ≡ false
     counts : (n : ℕ) → n < line_limit → stores_told (entry_at e n) ≡ k.stores s n
+    told : Told e
 
   -- One entry of the exact book is set, as late as the other book tells of the line.
   module _ (s s' : k.State) (e : Exact) (f : Follows s e) (line : ℕ) (lt : line < line_limit) (x : Entry)
       (stamp : ℕ) where
     follows_with :
         k.Good s' → exact.Good (with_entry e line x stamp) → Grows k s s'
+        → Grows exact e (with_entry e line x stamp) → stamp ≤ max x.stamps.write x.stamps.read.0
         → x.stamps.write ≤ k.write_stamp s' line → earlier (k.read_mark s' line) x.stamps.read ≡ false
         → stores_told x ≡ k.stores s' line → ((n : ℕ) → n < line_limit → (n ≡ line → ⊥) → k.stores s' n ≡ k.stores s n)
         → Follows s' (with_entry e line x stamp)
-    follows_with good fine grows w r c same =
+    follows_with good fine grows later has w r c same =
         record {
           good = good;
           fine = fine;
@@ -49,6 +73,7 @@ module _ (k : Kind) (keeps : Keeps k) where
           counts = λ n l. set_cases (λ y. stores_told y ≡ k.stores s' n) e.entries line n x untouched room
               (λ is. subst (λ m. stores_told x ≡ k.stores s' m) (sym is) c)
               (λ ne. f.counts n l ∙ sym (same n l ne));
+          told = told_with e f.fine line lt x stamp later has f.told;
         }
       where
         room : line < length e.entries
@@ -84,7 +109,8 @@ module _ (k : Kind) (keeps : Keeps k) where
         let a = f.stamps line lt in
         let b = grows.stamp_grows line lt in
         follows_with s (k.note s line t) e f line lt (entry_read (entry_at e line) t) t.0 there.0
-        here.0 grows (omega arith)
+        here.0 grows here.1.grows
+        (let l = stamp_no_less t _ (later_second (entry_at e line).stamps.read t) in omega arith) (omega arith)
         (later_least (entry_at e line).stamps.read t (k.read_mark (k.note s line t) line)
         (mark_chain _ (k.read_mark s line) _ (f.marks line lt) (grows.mark_grows line lt)) there.1.reaches)
         (f.counts line lt ∙ sym (there.1.stays line lt).same_stores) (λ n l _. (there.1.stays n l).same_stores)
@@ -97,7 +123,7 @@ module _ (k : Kind) (keeps : Keeps k) where
         let b = grows.stamp_grows line lt in
         let c = there.1.passes in
         follows_with s (k.reserve s line t) e f line lt (entry_held (entry_at e line) t) (t.0 + 1) there.0
-        here.0 grows (omega arith)
+        here.0 grows here.1.grows (omega arith) (omega arith)
         (later_least (entry_at e line).stamps.read (0, 0) (k.read_mark (k.reserve s line t) line)
         (mark_chain _ (k.read_mark s line) _ (f.marks line lt) (grows.mark_grows line lt))
         (mark_first (k.read_mark (k.reserve s line t) line)))
@@ -109,8 +135,8 @@ module _ (k : Kind) (keeps : Keeps k) where
         let grows = there.1.grows in
         let a = f.stamps line lt in
         let b = grows.stamp_grows line lt in
-        follows_with s (k.add s line) e f line lt (entry_more (entry_at e line)) 0 there.0 here.0 grows
-        (omega arith)
+        follows_with s (k.add s line) e f line lt (entry_more (entry_at e line)) 0 there.0 here.0 grows here.1.grows
+        (omega arith) (omega arith)
         (mark_chain _ (k.read_mark s line) _ (f.marks line lt) (grows.mark_grows line lt))
         (stores_by (warp_or_first (owner_told (entry_at e line))) _ ∙ ap (λ m. m + 1) (f.counts line lt)
         ∙ sym there.1.one_more) (λ n l ne. (there.1.stays n l ne).same_stores)
@@ -122,7 +148,7 @@ module _ (k : Kind) (keeps : Keeps k) where
         let a = f.stamps line lt in
         let b = grows.stamp_grows line lt in
         follows_with s (k.release s line) e f line lt (entry_freed (entry_at e line)) 0 there.0 here.0 grows
-        (omega arith)
+        here.1.grows (omega arith) (omega arith)
         (mark_chain _ (k.read_mark s line) _ (f.marks line lt) (grows.mark_grows line lt))
         (sym there.1.no_stores) (λ n l ne. (there.1.stays n l ne).same_stores)
 
@@ -147,7 +173,7 @@ module _ (k : Kind) (keeps : Keeps k) where
   run both f (call ∷ calls) = run (next_both k both call) (step both f call) calls
 
   start : (s : k.State) → k.Good s → New k s → Followed (s, exact_new)
-  unfolding Followed
+  unfolding Followed Told
   start s good new =
       record {
         good = good;
@@ -156,14 +182,33 @@ module _ (k : Kind) (keeps : Keeps k) where
         marks = λ n l. subst (λ x. earlier (k.read_mark s n) x.stamps.read ≡ false) (sym (new_entry n))
             (mark_first (k.read_mark s n));
         counts = λ n l. ap stores_told (new_entry n) ∙ sym (new.no_store n l);
+        told = (0, omega arith, omega arith);
       }
+
+  no_later : (s : k.State) (e : Exact) → Follows s e → exact.latest e ≤ k.latest s
+  unfolding Told
+  no_later s e f =
+      let n : ℕ = f.told.0 in
+      let lt : n < line_limit = f.told.1 in
+      let tells = keeps.tells s f.good n lt in
+      let told = f.told.2 in
+      let w = f.stamps n lt in
+      let r = stamp_no_less (entry_at e n).stamps.read (k.read_mark s n) (f.marks n lt) in
+      let bound = tells.stamp_bound in
+      let mark = tells.mark_bound in
+      omega arith
 
   pub exact_is_earliest : Earliest k
   unfolding Followed
   exact_is_earliest s good new calls =
       let both : k.State × Exact = run_both k (s, exact_new) calls in
       let f : Follows both.0 both.1 = run (s, exact_new) (start s good new) calls in
-      record { stamps = f.stamps; marks = f.marks; grants_too = too both.0 both.1 f }
+      record {
+        stamps = f.stamps;
+        marks = f.marks;
+        latest = no_later both.0 both.1 f;
+        grants_too = too both.0 both.1 f;
+      }
 
 -- What a book answers says whether both get the call.
 module _ (k : Kind) (s s' : k.State) (e e' : Exact) (call : BookCall) (after : s' ≡ next k s call) where
@@ -184,3 +229,5 @@ module _ (k : Kind) (s s' : k.State) (e e' : Exact) (call : BookCall) (after : s
           → ◌≡◌ {A = k.State × Exact} (s', e) (cond b (made k s call, next exact e call) (s, e))
       by true is h = absurd cc
       by false is h = λ i. (is i, e)
+
+pub ruleset made_of_both = (both_made, neither_made)

@@ -1,2 +1,3 @@
 pub mod Earliest
-mod Keeping
+pub mod NewBook
+mod OneSlot

@@ -32,11 +32,12 @@ abbrev pub run_both : (k : Kind) → k.State × Exact → List BookCall → k.St
 run_both k both [] = both
 run_both k both (call ∷ calls) = run_both k (next_both k both call) calls
 
--- The exact book tells no later write stamp and no later read mark of any line, and it grants every call that the other
--- does.
+-- The exact book tells no later write stamp and no later read mark of any line, its latest stamp is no later, and it
+-- grants every call that the other does.
 pub record NoLater (k : Kind) (both : k.State × Exact) : Type 0 where
   pub stamps : (n : ℕ) → n < line_limit → exact.write_stamp both.1 n ≤ k.write_stamp both.0 n
   pub marks : (n : ℕ) → n < line_limit → earlier (k.read_mark both.0 n) (exact.read_mark both.1 n) ≡ false
+  pub latest : exact.latest both.1 ≤ k.latest both.0
   pub grants_too : (call : BookCall) → grants k both.0 call ≡ true → grants exact both.1 call ≡ true
 
 -- So it is after any calls of two new books.

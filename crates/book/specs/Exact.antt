@@ -56,7 +56,7 @@ exact =
     record {
       State = Exact;
       Good = Sound;
-      slots = line_limit;
+      slots = λ _. line_limit;
       write_stamp = λ s line. (entry_at s line).stamps.write;
       read_mark = λ s line. (entry_at s line).stamps.read;
       stores = λ s line. stores_told (entry_at s line);

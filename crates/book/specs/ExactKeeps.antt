@@ -9,7 +9,8 @@ use Rattle.std.proofs.lemmas.Bool.{cases_eq, not-true, not-false, eqb-true, eqb-
 use Rattle.std.proofs.lemmas.Bool.{lt-ltb, ltb-true, and_parts}
 use Rattle.protocol.specs.Limits.{line_limit}
 use Rattle.book.specs.Time.{Time, earlier}
-use Rattle.book.specs.Meaning.{Keeps, New, Tells, Notes, Reserves, Adds, Releases, Grows, Stays}
+use Rattle.book.specs.Counting.{counted_most}
+use Rattle.book.specs.Meaning.{Keeps, New, Tells, reserved, Notes, Reserves, Adds, Releases, Grows, Stays}
 use Rattle.book.specs.Entries.{untouched, read_at, written_at, entry_read, entry_held, entry_more, entry_freed}
 use Rattle.book.specs.Entries.{stores_of, owner_of, stores_told, owner_told, hold_by, warp_or_first}
 use Rattle.book.specs.Exact.{Exact, exact, exact_new, entry_at, with_entry, FitsBy}
@@ -163,6 +164,7 @@ module _ (s : Exact) (good : exact.Good s) where
                 (raised_second told.stamps (read_at t)).1;
             stays = λ n _. stays_all line lt e t.0 refl refl n;
             latest_bound = omega arith;
+            same_slots = refl;
           },
         )
 
@@ -187,6 +189,7 @@ module _ (s : Exact) (good : exact.Good s) where
             passes = subst (λ x. t.0 < x.stamps.write) (sym here) (omega arith);
             stays = λ n _ ne. stays_with line lt e (t.0 + 1) n ne;
             latest_bound = omega arith;
+            same_slots = refl;
           },
         )
 
@@ -210,6 +213,7 @@ module _ (s : Exact) (good : exact.Good s) where
             same_owner = ap owner_told here ∙ same_owner_more told held;
             stays = λ n _ ne. stays_with line lt e 0 n ne;
             latest_bound = omega arith;
+            same_slots = refl;
           },
         )
 
@@ -226,6 +230,7 @@ module _ (s : Exact) (good : exact.Good s) where
             no_stores = ap stores_told (told_here line lt e 0);
             stays = λ n _ ne. stays_with line lt e 0 n ne;
             latest_bound = omega arith;
+            same_slots = refl;
           },
         )
 
@@ -236,7 +241,8 @@ numbered line rest can = ltb-true line line_limit (and_parts (nat_lt line line_l
 pub exact_keeps : Keeps exact
 exact_keeps =
     record {
-      some_slot = omega arith;
+      some_slot = λ s good. omega arith;
+      within_slots = λ s good. counted_most (reserved exact s) line_limit;
       tells = keeps_tells;
       notes = λ s good line t can. keeps_note s good line (numbered line _ can) t;
       reserves = λ s good line t can. keeps_reserve s good line (numbered line _ (and_parts _ _ can).0) t;

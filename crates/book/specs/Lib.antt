@@ -1,12 +1,13 @@
 pub mod Time
 pub mod Meaning
+pub mod Counting
 pub mod Entries
 pub mod Grants
 pub mod Exact
-pub mod Kept
 pub mod Pages
 pub mod Earliest
 pub mod ExactKeeps
+pub mod Slots
 pub mod Order
 pub mod Tables
 pub mod Printed

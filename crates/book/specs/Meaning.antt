@@ -8,8 +8,8 @@ pub record Kind : Type 1 where
   pub State : Type 0
   -- the states that come up; a kind's own affair
   pub Good : State → Type 0
-  -- how many lines it can have reserved at once
-  pub slots : ℕ
+  -- how many lines it can have reserved at once: fixed when the book is made
+  pub slots : State → ℕ
   pub write_stamp : State → ℕ → ℕ
   pub read_mark : State → ℕ → Time
   -- how many stores hold the line reserved
@@ -79,7 +79,7 @@ module _ (k : Kind) (s : k.State) where
     pub placed : reserved line ≡ true → k.has_slot s line ≡ true
     pub ownerless : reserved line ≡ false → k.owner s line ≡ None
     -- so has every other line while fewer lines are reserved than there are slots
-    pub room : reserved_lines < k.slots → k.has_slot s line ≡ true
+    pub room : reserved_lines < k.slots s → k.has_slot s line ≡ true
 
   -- A new book tells nothing: no stamp, no reservation, and a slot for every line.
   pub record New : Type 0 where
@@ -107,6 +107,7 @@ module _ (k : Kind) (s s' : k.State) where
     pub reaches : earlier (k.read_mark s' line) t ≡ false
     pub stays : (n : ℕ) → n < line_limit → Stays n
     pub latest_bound : k.latest s' ≤ max (k.latest s) t.0
+    pub same_slots : k.slots s' ≡ k.slots s
 
   -- Reserving makes one store of the line, for its warp, and passes the stamp.
   pub record Reserves (line : ℕ) (t : Time) : Type 0 where
@@ -116,6 +117,7 @@ module _ (k : Kind) (s s' : k.State) where
     pub passes : t.0 < k.write_stamp s' line
     pub stays : (n : ℕ) → n < line_limit → (n ≢ line) → Stays n
     pub latest_bound : k.latest s' ≤ max (k.latest s) (t.0 + 1)
+    pub same_slots : k.slots s' ≡ k.slots s
 
   -- Adding a store counts one more and leaves the owner.
   pub record Adds (line : ℕ) : Type 0 where
@@ -124,6 +126,7 @@ module _ (k : Kind) (s s' : k.State) where
     pub same_owner : k.owner s' line ≡ k.owner s line
     pub stays : (n : ℕ) → n < line_limit → (n ≢ line) → Stays n
     pub latest_bound : k.latest s' ≤ k.latest s
+    pub same_slots : k.slots s' ≡ k.slots s
 
   -- Releasing leaves no store.
   pub record Releases (line : ℕ) : Type 0 where
@@ -131,10 +134,13 @@ module _ (k : Kind) (s s' : k.State) where
     pub no_stores : k.stores s' line ≡ 0
     pub stays : (n : ℕ) → n < line_limit → (n ≢ line) → Stays n
     pub latest_bound : k.latest s' ≤ k.latest s
+    pub same_slots : k.slots s' ≡ k.slots s
 
 -- What every book keeps, in every state that comes up.
 pub record Keeps (k : Kind) : Type 0 where
-  pub some_slot : 0 < k.slots
+  -- there is some slot, and no more lines are reserved at once than there are slots
+  pub some_slot : (s : k.State) → k.Good s → 0 < k.slots s
+  pub within_slots : (s : k.State) → k.Good s → reserved_lines k s ≤ k.slots s
   pub tells : (s : k.State) → k.Good s → (line : ℕ) → line < line_limit → Tells k s line
   pub notes :
       (s : k.State) → k.Good s → (line : ℕ) (t : Time) → can_note k s line t ≡ true

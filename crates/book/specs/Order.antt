@@ -43,6 +43,10 @@ earlier_grows a b c d p q =
 pub earlier_bound : (a b : Time) (m : ℕ) → a.0 ≤ m → (earlier_of a b).0 ≤ m
 earlier_bound a b m p = grind (arith, nat_tests)
 
+-- A time that is not before another has no smaller stamp.
+pub stamp_no_less : (a b : Time) → earlier b a ≡ false → a.0 ≤ b.0
+stamp_no_less a b p = grind (arith, nat_tests)
+
 pub stamps_same : (a : Stamps) → NoEarlier a a
 stamps_same a = (omega arith, mark_same a.read)
 

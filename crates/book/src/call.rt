@@ -61,7 +61,8 @@ pub fn make<B: Book>(book: &mut B, call: BookCall) -> Result<(), Refused>
 }
 
 /// Makes a call of a book and, if it is granted, of the exact book too. In every run of such calls, from two new books
-/// on, the exact book grants whatever the other does and tells no later stamp.
+/// on, the exact book grants whatever the other does, tells no later stamp of any line, and has no later latest stamp.
+#[tactic(auto, using(crate::proofs::Earliest::made_of_both))]
 pub fn make_both<B: Book>(
     book: &mut B,
     exact: &mut ExactBook,

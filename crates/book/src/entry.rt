@@ -1,6 +1,5 @@
 //! What a book keeps of a line.
 ghost use Rattle.std.specs.Prelude.{◌≡◌, ◌<◌};
-ghost use Rattle.book.specs.Time.{earlier};
 ghost use Rattle.book.specs.Meaning.{sound_time};
 
 use protocol::limits::{LAST_STAMP, WARPS};
@@ -29,14 +28,6 @@ pub struct Entry {
     pub hold: Option<Hold>,
 }
 
-/// Whether a time comes before another: by stamp, then by warp.
-pub fn comes_before(a: (u32, u32), b: (u32, u32)) -> bool
-    ensures { result ≡ earlier a b }
-{
-    // What the order of pairs says, in fewer steps: an earlier warp counts only where the stamps are the same.
-    u64::from(a.0) < u64::from(b.0) + u64::from(a.1 < b.1)
-}
-
 /// Whether a call may name the time: no stamp past the end of the clock, no warp past the last.
 pub fn can_be(time: (u32, u32)) -> bool
     ensures { result ≡ sound_time time }
@@ -53,25 +44,14 @@ impl Stamps {
         read: (0, 0),
     };
 
-    /// Raises each to the other's, where it is earlier. What is not earlier is not written.
-    #[inline(always)]
-    pub fn raise(&mut self, other: Stamps)
-        ensures { self.new ≡ raised self.old other }
-    {
-        if self.write < other.write {
-            self.write = other.write;
-        }
-        if comes_before(self.read, other.read) {
-            self.read = other.read;
-        }
-    }
-
     /// The later of each.
-    pub fn raised(mut self, other: Stamps) -> Stamps
+    pub fn raised(self, other: Stamps) -> Stamps
         ensures { result ≡ raised self other }
     {
-        self.raise(other);
-        self
+        Stamps {
+            write: self.write.max(other.write),
+            read: self.read.max(other.read),
+        }
     }
 
     // The twin of `raised`, but for which is taken: a rule of choice as a parameter would have to choose among numbers
@@ -80,14 +60,9 @@ impl Stamps {
     pub fn least(self, other: Stamps) -> Stamps
         ensures { result ≡ least self other }
     {
-        let read = if comes_before(other.read, self.read) {
-            other.read
-        } else {
-            self.read
-        };
         Stamps {
             write: self.write.min(other.write),
-            read,
+            read: self.read.min(other.read),
         }
     }
 }
@@ -96,8 +71,7 @@ impl Hold {
     ghost use Rattle.book.specs.Entries.{hold_by};
 
     /// So many stores of a warp; no hold where there are none.
-    #[inline(always)]
-    pub(crate) fn of(warp: u32, stores: u32) -> Option<Hold>
+    fn of(warp: u32, stores: u32) -> Option<Hold>
         ensures { result ≡ hold_by warp stores }
     {
         match stores {

@@ -4,7 +4,7 @@ use Rattle.std.specs.Option.{option_map}
 use Rattle.protocol.specs.Faults.{fault_in_file}
 use Rattle.protocol.specs.declared.fault.Fault.{Fault}
 use Rattle.protocol.specs.declared.fault.Refusal.TheVariants.{BadSize, BadStamp, BadMark, BadVersion}
-use Rattle.protocol.specs.declared.fault.Refusal.TheVariants.{CutShort, BadLetter}
+use Rattle.protocol.specs.declared.fault.Refusal.TheVariants.{BadLetter}
 use Rattle.calls.specs.Format.{header_fault, first_found, marked, two_bytes, book_named, sized}
 use Rattle.calls.specs.Format.{rows_place, late_stamp, stamps}
 
@@ -31,11 +31,6 @@ module _ (bytes : List ℕ) where
         wrong_size e = simp (m, v, b, e)
 
         module _ (s : sized bytes ≡ true) where
-          pub too_short :
-              leb (rows_place bytes) (length bytes) ≡ false
-              → header_fault bytes ≡ Some (fault_in_file CutShort (length bytes))
-          too_short e = simp (m, v, b, s, e)
-
           pub long_enough :
               leb (rows_place bytes) (length bytes) ≡ true
               → header_fault bytes ≡ option_map (fault_in_file BadStamp) (late_stamp 9 (stamps bytes))

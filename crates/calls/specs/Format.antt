@@ -1,5 +1,5 @@
 -- The calls file, byte by byte. Places count bytes from 0; a byte that is missing reads as 0.
-use Rattle.std.specs.Prelude.{ℕ, zero, suc, ◌+◌, ◌*◌, Bool, cond, ◌&&◌, List, [], ◌∷◌, length, is_some, Some, None, Ok, Err, Option, Result, ◌==◌, nat_le, nat_lt, slice_index}
+use Rattle.std.specs.Prelude.{◌≡◌, ℕ, zero, suc, ◌+◌, ◌*◌, Bool, cond, ◌&&◌, List, [], ◌∷◌, length, is_some, Some, None, Ok, Err, Option, Result, ◌==◌, nat_le, nat_lt, slice_index}
 use Rattle.std.specs.Option.{option_map, ok_or}
 use Rattle.protocol.specs.Calls.{op_named}
 use Rattle.protocol.specs.Faults.{fault_in_file}
@@ -26,9 +26,23 @@ abbrev pub numbers : List ℕ → ℕ → ℕ → List ℕ
 numbers bytes place zero = []
 numbers bytes place (suc more) = four_bytes bytes place ∷ numbers bytes (place + 4) more
 
--- The letter of a book: E for the exact one, C for the condensed one.
+-- The letter by which a calls file asks for a book: E for the exact one, C for the condensed one.
+abbrev pub book_letter : BookKind → ℕ
+book_letter Exact = 69
+book_letter Condensed = 67
+
+-- The book whose letter a letter is.
 abbrev pub book_named : ℕ → Option BookKind
-book_named letter = cond (letter == 69) (Some Exact) (cond (letter == 67) (Some Condensed) None)
+book_named letter =
+    cond (letter == book_letter Exact) (Some Exact) (cond (letter == book_letter Condensed) (Some Condensed) None)
+
+-- Each book is what its own letter names.
+abbrev pub LettersNameBooks : Type 0
+LettersNameBooks = (kind : BookKind) → book_named (book_letter kind) ≡ Some kind
+
+-- What a letter names has that letter.
+abbrev pub BooksKeepLetters : Type 0
+BooksKeepLetters = (letter : ℕ) (kind : BookKind) → book_named letter ≡ Some kind → book_letter kind ≡ letter
 
 -- The header: the letters G, T and M, a 16-bit version, a book's letter, a byte of warps, 16 bits of lines, a first
 -- stamp for each warp and a value for each line. Rows follow to the end of the file.

@@ -1,16 +1,51 @@
 //! What a calls file says, and why one cannot be read.
 ghost use Rattle.std.specs.Prelude.{◌≡◌, ◌≤◌, vec_len};
+ghost use Rattle.std.specs.Option.{ok_or};
+ghost use Rattle.protocol.specs.declared.fault.Refusal.TheVariants.{BadLetter};
+ghost use Rattle.calls.specs.Format.{book_letter, book_named, LettersNameBooks, BooksKeepLetters};
 ghost use Rattle.calls.specs.declared.file.ReadError.TheVariants.{Damaged, NoMemory};
 
 use protocol::call::Call;
-use protocol::fault::Fault;
-use std::alloc::{AllocError, AllocFailed};
+use protocol::fault::{Fault, Refusal};
+use std::alloc::AllocError;
 
 /// The version book that a file asks for.
 #[derive(Clone, Copy, PartialEq, Eq, Debug)]
 pub enum BookKind {
     Exact,
     Condensed,
+}
+
+impl BookKind {
+    // No From: it is the way back of a TryFrom, and reads as such beside it.
+    /// The letter by which a calls file asks for the book.
+    pub fn letter(self) -> char
+        ensures { result ≡ book_letter self }
+    {
+        match self {
+            BookKind::Exact => 'E',
+            BookKind::Condensed => 'C',
+        }
+    }
+}
+
+/// The book that a letter names.
+impl TryFrom<char> for BookKind {
+    type Error = Refusal;
+
+    ghost try_from_gives = { λ letter result. result ≡ ok_or (book_named letter) BadLetter };
+
+    fn try_from(letter: char) -> Result<BookKind, Refusal>
+        ensures answer { result ≡ ok_or (book_named letter) BadLetter }
+        ensures back { LettersNameBooks }
+        ensures kept { BooksKeepLetters }
+    {
+        match letter {
+            'E' => Ok(BookKind::Exact),
+            'C' => Ok(BookKind::Condensed),
+            _ => Err(Refusal::BadLetter),
+        }
+    }
 }
 
 /// A file whose header is sound: the machine to make, the calls to make of it, and what is wrong with the first row
@@ -45,14 +80,6 @@ impl From<AllocError> for ReadError {
     ghost from_gives = { λ _ r. r ≡ NoMemory };
 
     fn from(_error: AllocError) -> ReadError {
-        ReadError::NoMemory
-    }
-}
-
-impl<T: Drop> From<AllocFailed<T>> for ReadError {
-    ghost from_gives = { λ _ r. r ≡ NoMemory };
-
-    fn from(_error: AllocFailed<T>) -> ReadError {
         ReadError::NoMemory
     }
 }

@@ -1,9 +1,7 @@
 //! The header: marks, version, book, sizes, first stamps and line values.
 ghost use Rattle.std.specs.Prelude.{◌≡◌, ◌/◌, ◌<◌, length, position, IfOk, IfSome, MatchResult, nat_lt};
-ghost use Rattle.std.specs.Option.{ok_or};
 ghost use Rattle.protocol.specs.Limits.{last_stamp};
-ghost use Rattle.protocol.specs.declared.fault.Refusal.TheVariants.{BadLetter};
-ghost use Rattle.calls.specs.Format.{book_named, numbers};
+ghost use Rattle.calls.specs.Format.{four_bytes, numbers};
 ghost use Rattle.calls.specs.Headers.{Versioned, Shaped, DamagedBy};
 
 use crate::file::BookKind;
@@ -11,10 +9,22 @@ use protocol::fault::{Fault, Refusal};
 use protocol::limits;
 use std::alloc::{AllocError, Global};
 
+/// The one version of the format.
 const VERSION: u16 = 1;
 
+/// The version stands here, after the marks.
+const VERSION_PLACE: usize = 3;
+
+/// The book's letter stands here.
+const BOOK_PLACE: usize = 5;
+
+/// The numbers of warps and of lines stand here.
+const SIZES_PLACE: usize = 6;
+
+/// A file has at most so many warps.
 pub(crate) const WARPS: usize = limits::WARPS as usize;
 
+/// A file has at most so many lines.
 pub(crate) const LINES: usize = limits::LINES as usize;
 
 /// The header's sizes, as far as they say where everything else stands.
@@ -25,37 +35,23 @@ pub struct Shape {
     pub lines: usize,
 }
 
-/// The book that a letter names.
-impl TryFrom<char> for BookKind {
-    type Error = Refusal;
-
-    ghost try_from_gives = { λ letter result. result ≡ ok_or (book_named letter) BadLetter };
-
-    fn try_from(letter: char) -> Result<BookKind, Refusal> {
-        match letter {
-            'E' => Ok(BookKind::Exact),
-            'C' => Ok(BookKind::Condensed),
-            _ => Err(Refusal::BadLetter),
-        }
-    }
-}
-
 /// The part of the header that stands before the first stamps.
 pub fn read_shape(bytes: &[u8]) -> Result<Shape, Fault>
     ensures { MatchResult result (Shaped bytes.now) (DamagedBy bytes.now) }
 {
     let rest = after_version(bytes)?;
     let [letter, sizes @ ..] = rest else {
-        return Err(Fault::in_file(Refusal::BadLetter, 5));
+        return Err(Fault::in_file(Refusal::BadLetter, BOOK_PLACE));
     };
-    let book = BookKind::try_from(char::from(*letter)).map_err(|why| Fault::in_file(why, 5))?;
+    let letter = char::from(*letter);
+    let book = BookKind::try_from(letter).map_err(|why| Fault::in_file(why, BOOK_PLACE))?;
     let [warps, high, low, ..] = sizes else {
-        return Err(Fault::in_file(Refusal::BadSize, 6));
+        return Err(Fault::in_file(Refusal::BadSize, SIZES_PLACE));
     };
     let warps = usize::from(*warps);
     let lines = usize::from(u16::from_be_bytes([*high, *low]));
     if warps == 0 || warps > WARPS || lines == 0 || lines > LINES {
-        return Err(Fault::in_file(Refusal::BadSize, 6));
+        return Err(Fault::in_file(Refusal::BadSize, SIZES_PLACE));
     }
     Ok(Shape { book, warps, lines })
 }
@@ -67,11 +63,11 @@ fn after_version(bytes: &[u8]) -> Result<&[u8], Fault>
     match bytes {
         [b'G', b'T', b'M', high, low, rest @ ..] => {
             if u16::from_be_bytes([*high, *low]) != VERSION {
-                return Err(Fault::in_file(Refusal::BadVersion, 3));
+                return Err(Fault::in_file(Refusal::BadVersion, VERSION_PLACE));
             }
             Ok(rest)
         }
-        [b'G', b'T', b'M', ..] => Err(Fault::in_file(Refusal::BadVersion, 3)),
+        [b'G', b'T', b'M', ..] => Err(Fault::in_file(Refusal::BadVersion, VERSION_PLACE)),
         _ => Err(Fault::in_file(Refusal::BadMark, 0)),
     }
 }
@@ -81,10 +77,14 @@ pub(crate) fn read_numbers(heap: Global, bytes: &[u8]) -> Result<Vec<u32>, Alloc
     ensures { IfOk result (λ v. v.items ≡ numbers bytes.now 0 (length bytes.now / 4)) }
 {
     let (quads, _) = bytes.as_chunks::<4>();
-    quads
-        .iter()
-        .map(|quad| u32::from_be_bytes(*quad))
-        .collect(heap)
+    quads.iter().map(read_number).collect(heap)
+}
+
+// The number that four bytes say.
+fn read_number(quad: &[u8; 4]) -> u32
+    ensures { result ≡ four_bytes quad.now 0 }
+{
+    u32::from_be_bytes(*quad)
 }
 
 /// The first stamp past the end of the clock, by its number.

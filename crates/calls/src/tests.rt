@@ -62,6 +62,17 @@ fn book_and_sizes(rt: HostRuntime) -> Result<(), Fail> {
 }
 
 #[test]
+fn book_letters_there_and_back(rt: HostRuntime) {
+    for (book, letter) in [(BookKind::Exact, 'E'), (BookKind::Condensed, 'C')] {
+        assert_eq!(rt; book.letter(), letter);
+        assert_eq!(rt; BookKind::try_from(letter), Ok(book));
+    }
+    for letter in ['e', 'c', 'D', '\0', 'Е', '\u{10ffff}'] {
+        assert_eq!(rt; BookKind::try_from(letter), Err(Refusal::BadLetter));
+    }
+}
+
+#[test]
 fn stamps_and_values(rt: HostRuntime) -> Result<(), Fail> {
     let heap = rt.alloc();
     damaged(&rt, heap, b"GTM\x00\x01E\x01\x00\x01", 13, 9)?;

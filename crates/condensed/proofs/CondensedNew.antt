@@ -1,23 +1,23 @@
 -- A new condensed book tells nothing, and has a slot for every line.
-use Rattle.std.proofs.Common.{◌≡◌, ℕ, ◌+◌, ◌<◌, true, ltb, List, get_or, replicate, is_some, Some, None, Option, refl, ap, ◌∙◌}
+use Rattle.std.proofs.Common.{◌≡◌, ℕ, ◌<◌, true, ltb, List, get_or, replicate, is_some, Some, None, Option, refl, ap, ◌∙◌}
 use Rattle.std.proofs.lemmas.Bool.{and_from, lt-ltb}
 use Rattle.protocol.specs.Limits.{line_limit}
 use Rattle.book.specs.Meaning.{New}
 use Rattle.book.specs.Entries.{untouched, no_stamps, free_with, least, stores_told, owner_told}
 use Rattle.book.specs.declared.entry.Stamps.{Stamps}
 use Rattle.book.specs.ExactKeeps.{same_anywhere}
-use Rattle.condensed.specs.Filter.{indices_of, filter_told, stamps_at}
+use Rattle.condensed.specs.Filter.{indices_of, filter_told}
 use Rattle.condensed.specs.Condensed.{condensed, condensed_new, empty, holds, slot_of, or_else, told}
 use Rattle.condensed.specs.Condensed.{told_from}
 use Rattle.condensed.specs.Slots.{none_found}
+use Rattle.condensed.specs.CondensedKeeps.{new_stamps}
 use Rattle.condensed.specs.CondensedTells.{told_inside}
 
-nothing_told : (four : List ℕ) → filter_told (replicate 256 no_stamps) four ≡ no_stamps
+nothing_told : (four : List ℕ) → filter_told (replicate 4 (replicate 64 no_stamps)) four ≡ no_stamps
 unfolding filter_told
 nothing_told four =
-    let at : (k : ℕ) → stamps_at (replicate 256 no_stamps) k ≡ no_stamps = λ k. same_anywhere 256 k no_stamps in
-    all_four _ _ _ _ (at (get_or four 0 0)) (at (64 + get_or four 1 0)) (at (128 + get_or four 2 0))
-    (at (192 + get_or four 3 0))
+    all_four _ _ _ _ (new_stamps 4 0 (get_or four 0 0)) (new_stamps 4 1 (get_or four 1 0))
+    (new_stamps 4 2 (get_or four 2 0)) (new_stamps 4 3 (get_or four 3 0))
   where
     all_four :
         (a b c d : Stamps) → a ≡ no_stamps → b ≡ no_stamps → c ≡ no_stamps → d ≡ no_stamps
@@ -32,7 +32,8 @@ module _ (n : ℕ) (lt : n < line_limit) where
 
   tells_nothing : told condensed_new n ≡ untouched
   tells_nothing =
-      told_inside condensed_new n lt ∙ ap (told_from (replicate 16 empty) (replicate 256 no_stamps) n) nowhere
+      told_inside condensed_new n lt
+      ∙ ap (told_from (replicate 16 empty) (replicate 4 (replicate 64 no_stamps)) n) nowhere
       ∙ ap free_with (nothing_told (indices_of n))
 
   some_slot : (o : Option ℕ) → is_some (or_else o (Some 0)) ≡ true

@@ -1,4 +1,4 @@
 mod CondensedNew
 mod SharedMark
-mod Rooms
-mod Seats
+mod SixteenHeld
+pub mod Rooms

@@ -7,19 +7,19 @@ use Rattle.book.specs.Time.{Time}
 use Rattle.book.specs.Meaning.{Kind}
 use Rattle.book.specs.Entries.{untouched, no_stamps, free_with, read_at, entry_read, entry_held, entry_more}
 use Rattle.book.specs.Entries.{entry_freed, stores_told, owner_told}
-use Rattle.condensed.specs.Filter.{indices_of, filter_told, filter_raised, stamps_at}
+use Rattle.condensed.specs.Filter.{FourWays, indices_of, filter_told, filter_raised, stamps_at}
 use Rattle.book.specs.declared.entry.Entry.{Entry}
 use Rattle.book.specs.declared.entry.Stamps.{Stamps}
 use Rattle.condensed.specs.declared.slot.Occupant.{Occupant}
 use Rattle.condensed.specs.declared.slot.Slot.{Slot}
 
--- What the book has: its slots, the filter's entries, one way after another, and the latest stamp.
+-- What the book has: its slots, the filter's four ways, and the latest stamp.
 pub record Condensed : Type 0 where
   pub slots : List Slot
-  pub filter : List Stamps
+  pub filter : List (List Stamps)
   pub latest : ℕ
 
-abbrev pub page_of : List Slot → List Stamps → ℕ → Condensed
+abbrev pub page_of : List Slot → List (List Stamps) → ℕ → Condensed
 page_of slots filter latest = record { slots = slots; filter = filter; latest = latest }
 
 -- A slot that holds no line.
@@ -85,28 +85,26 @@ place_in slots inside = or_else inside (chosen (map slot_key slots))
 abbrev pub place_for : List Slot → ℕ → Option ℕ
 place_for slots line = or_else (slot_of slots line) (chosen (map slot_key slots))
 
--- A line in a slot is told from the slot, any other from the filter. A line without a number is told as one that
--- no call named yet.
-abbrev pub told_from : List Slot → List Stamps → ℕ → Option ℕ → Entry
+-- A line in a slot is told from the slot, any other from the filter.
+abbrev pub told_from : List Slot → List (List Stamps) → ℕ → Option ℕ → Entry
 told_from slots filter line None = free_with (filter_told filter (indices_of line))
 told_from slots filter line (Some place) = (entry_in (get_or slots place empty))
 
-abbrev pub told_entry : List Slot → List Stamps → ℕ → Entry
-told_entry slots filter line =
-    cond (nat_lt line line_limit) (told_from slots filter line (slot_of slots line)) untouched
-
 -- A slot is left to a line: another line that was in it raises its entries of the filter to its stamps.
-abbrev pub raised_for : List Stamps → Stamps → ℕ → Option ℕ → List Stamps
+abbrev pub raised_for : List (List Stamps) → Stamps → ℕ → Option ℕ → List (List Stamps)
 raised_for filter stamps line None = filter
 raised_for filter stamps line (Some out) = cond (out == line) filter (filter_raised filter (indices_of out) stamps)
 
-abbrev pub turned_out : List Stamps → Slot → ℕ → List Stamps
+abbrev pub turned_out : List (List Stamps) → Slot → ℕ → List (List Stamps)
 turned_out filter slot line = raised_for filter (entry_in slot).stamps line (line_in slot)
 
 module _ (s : Condensed) where
-  -- What is told of a line.
+  -- What is told of a line, by the slot that it is in. A line without a number is told as one that no call named yet.
+  abbrev pub told_by : ℕ → Option ℕ → Entry
+  told_by line inside = cond (nat_lt line line_limit) (told_from s.slots s.filter line inside) untouched
+
   abbrev pub told : ℕ → Entry
-  told line = told_entry s.slots s.filter line
+  told line = told_by line (slot_of s.slots line)
 
   -- A slot is left to a line.
   abbrev pub vacated : ℕ → ℕ → Condensed
@@ -158,9 +156,6 @@ Bounded stamps latest = (stamps.write ≤ latest) × (stamps.read.0 ≤ latest)
 abbrev pub Sixteen : List Slot → Type 0
 Sixteen slots = length slots ≡ 16
 
-abbrev pub FourWays : List Stamps → Type 0
-FourWays filter = length filter ≡ 256
-
 -- no line in two slots, and only lines that have a number;
 abbrev pub Apart : List Slot → Type 0
 Apart slots = (i j : ℕ) → same_line (line_in (get_or slots i empty)) (line_in (get_or slots j empty)) ≡ true → i ≡ j
@@ -175,11 +170,11 @@ SlotsWritten slots latest = (i : ℕ) → (entry_in (get_or slots i empty)).stam
 abbrev pub SlotsRead : List Slot → ℕ → Type 0
 SlotsRead slots latest = (i : ℕ) → (entry_in (get_or slots i empty)).stamps.read.0 ≤ latest
 
-abbrev pub FilterWritten : List Stamps → ℕ → Type 0
-FilterWritten filter latest = (i : ℕ) → (stamps_at filter i).write ≤ latest
+abbrev pub FilterWritten : List (List Stamps) → ℕ → Type 0
+FilterWritten filter latest = (way i : ℕ) → (stamps_at filter way i).write ≤ latest
 
-abbrev pub FilterRead : List Stamps → ℕ → Type 0
-FilterRead filter latest = (i : ℕ) → (stamps_at filter i).read.0 ≤ latest
+abbrev pub FilterRead : List (List Stamps) → ℕ → Type 0
+FilterRead filter latest = (way i : ℕ) → (stamps_at filter way i).read.0 ≤ latest
 
 -- a write stamp in every slot that stores hold.
 abbrev pub SlotsStamped : List Slot → Type 0
@@ -198,13 +193,13 @@ pub record Sound (s : Condensed) : Type 0 where
   pub filter_read : FilterRead s.filter s.latest
   pub slots_stamped : SlotsStamped s.slots
 
--- The condensed book, with its sixteen slots.
+-- The condensed book, with its sixteen slots in every state.
 abbrev pub condensed : Kind
 condensed =
     record {
       State = Condensed;
       Good = Sound;
-      slots = 16;
+      slots = λ _. 16;
       write_stamp = λ s line. (told s line).stamps.write;
       read_mark = λ s line. (told s line).stamps.read;
       stores = λ s line. stores_told (told s line);
@@ -219,4 +214,4 @@ condensed =
 
 -- A new book: no slot has a line, and no entry a stamp.
 abbrev pub condensed_new : Condensed
-condensed_new = record { slots = replicate 16 empty; filter = replicate 256 no_stamps; latest = 0 }
+condensed_new = record { slots = replicate 16 empty; filter = replicate 4 (replicate 64 no_stamps); latest = 0 }

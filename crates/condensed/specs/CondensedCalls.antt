@@ -8,7 +8,7 @@ use Rattle.protocol.specs.Limits.{line_limit}
 use Rattle.book.specs.Entries.{free_with, stores_told, owner_told}
 use Rattle.book.specs.ExactKeeps.{free_owner}
 use Rattle.book.specs.Exact.{FitsBy}
-use Rattle.condensed.specs.Filter.{indices_of, stamps_at, filter_told, filter_raised}
+use Rattle.condensed.specs.Filter.{FourWays, indices_of, stamps_at, filter_told, filter_raised}
 use Rattle.condensed.specs.Condensed.{Condensed, Sound, empty, is_line, same_line, holds, slot_of, told_from, told}
 use Rattle.condensed.specs.Condensed.{holding, line_in, entry_in, in_slot, turned_out, raised_for, Apart, Numbered}
 use Rattle.book.specs.declared.entry.Entry.{Entry}
@@ -17,7 +17,7 @@ use Rattle.condensed.specs.declared.slot.Slot.{Slot}
 use Rattle.book.specs.Order.{NoEarlier, stamps_same, later_bound}
 use Rattle.book.specs.Tables.{set_any, set_cases}
 use Rattle.condensed.specs.Indices.{indices_inside}
-use Rattle.condensed.specs.Sieve.{Grown, raised_grows, raised_each, raised_length, raised_reaches, told_grows}
+use Rattle.condensed.specs.Sieve.{Grown, raised_grows, raised_each, raised_ways, raised_reaches, told_grows}
 use Rattle.condensed.specs.Slots.{Spot, spot, found_in, none_found, line_is, same_from, same_back, slot_same}
 use Rattle.condensed.specs.Slots.{line_same}
 use Rattle.condensed.specs.CondensedTells.{told_inside}
@@ -49,30 +49,30 @@ kept_out a b none up =
     }
 
 -- The stamps of every entry of a filter are within a stamp.
-pub record Within (filter : List Stamps) (latest : ℕ) : Type 0 where
-  pub size : length filter ≡ 256
-  pub written : (k : ℕ) → (stamps_at filter k).write ≤ latest
-  pub read : (k : ℕ) → (stamps_at filter k).read.0 ≤ latest
+pub record Within (filter : List (List Stamps)) (latest : ℕ) : Type 0 where
+  pub ways : FourWays filter
+  pub written : (way k : ℕ) → (stamps_at filter way k).write ≤ latest
+  pub read : (way k : ℕ) → (stamps_at filter way k).read.0 ≤ latest
 
 pub within_raised :
-    (filter : List Stamps) (latest later : ℕ) (four : List ℕ) (s : Stamps) → Within filter latest → latest ≤ later
-    → s.write ≤ later → s.read.0 ≤ later → Within (filter_raised filter four s) later
+    (filter : List (List Stamps)) (latest later : ℕ) (four : List ℕ) (s : Stamps) → Within filter latest
+    → latest ≤ later → s.write ≤ later → s.read.0 ≤ later → Within (filter_raised filter four s) later
 within_raised filter latest later four s w up sw sr =
     record {
-      size = raised_length filter four s ∙ w.size;
+      ways = raised_ways filter four s w.ways;
       written = raised_each filter four s (λ x. x.write ≤ later) (λ x h. omega arith)
-          (λ k. let h = w.written k in omega arith);
+          (λ way k. let h = w.written way k in omega arith);
       read = raised_each filter four s (λ x. x.read.0 ≤ later) (λ x h. later_bound x.read s.read later h sr)
-          (λ k. let h = w.read k in omega arith);
+          (λ way k. let h = w.read way k in omega arith);
     }
 
-pub within_later : (filter : List Stamps) (latest later : ℕ) → Within filter latest → latest ≤ later
+pub within_later : (filter : List (List Stamps)) (latest later : ℕ) → Within filter latest → latest ≤ later
     → Within filter later
 within_later filter latest later w up =
     record {
-      size = w.size;
-      written = λ k. let h = w.written k in omega arith;
-      read = λ k. let h = w.read k in omega arith;
+      ways = w.ways;
+      written = λ way k. let h = w.written way k in omega arith;
+      read = λ way k. let h = w.read way k in omega arith;
     }
 
 -- A line is moved into a slot, and whoever was in it is turned out.
@@ -86,17 +86,17 @@ moved_to s line i e later =
 
 module _ (s : Condensed) (sound : Sound s) where
   pub within_now : Within s.filter s.latest
-  within_now = record { size = sound.four_ways; written = sound.filter_written; read = sound.filter_read }
+  within_now = record { ways = sound.four_ways; written = sound.filter_written; read = sound.filter_read }
 
   -- A slot may be set whose entry fits.
   pub sound_with :
-      (i : ℕ) (x : Slot) (filter : List Stamps) (later : ℕ) → s.latest ≤ later → FitsBy later (entry_in x)
+      (i : ℕ) (x : Slot) (filter : List (List Stamps)) (later : ℕ) → s.latest ≤ later → FitsBy later (entry_in x)
       → Apart (slice_set s.slots i x) → Numbered (slice_set s.slots i x) → Within filter later
       → Sound (record { slots = slice_set s.slots i x; filter = filter; latest = later })
   sound_with i x filter later up fits apart numbered w =
       record {
         sixteen = length-set s.slots i x ∙ sound.sixteen;
-        four_ways = w.size;
+        four_ways = w.ways;
         apart = apart;
         numbered = numbered;
         slots_written = λ k. set_any (λ y. (entry_in y).stamps.write ≤ later) s.slots i k x empty fits.0
@@ -111,7 +111,7 @@ module _ (s : Condensed) (sound : Sound s) where
       }
 
   -- Another filter, with entries no earlier, and the same slots.
-  module _ (filter : List Stamps) (later : ℕ) where
+  module _ (filter : List (List Stamps)) (later : ℕ) where
     sifted : Condensed
     sifted = record { slots = s.slots; filter = filter; latest = later }
 
@@ -120,7 +120,7 @@ module _ (s : Condensed) (sound : Sound s) where
     sound_sifted up w =
         record {
           sixteen = sound.sixteen;
-          four_ways = w.size;
+          four_ways = w.ways;
           apart = sound.apart;
           numbered = sound.numbered;
           slots_written = λ k. let h = sound.slots_written k in omega arith;
@@ -205,10 +205,10 @@ module _ (s : Condensed) (sound : Sound s) where
 
   -- Whoever is turned out raises its entries; nobody's entries get earlier.
   out_grows : (line : ℕ) (stamps : Stamps) (o : Option ℕ) → Grown s.filter (raised_for s.filter stamps line o)
-  out_grows line stamps None = λ k. stamps_same (stamps_at s.filter k)
+  out_grows line stamps None = λ way k. stamps_same (stamps_at s.filter way k)
   out_grows line stamps (Some m) =
       cond_both (m == line) s.filter (filter_raised s.filter (indices_of m) stamps) (Grown s.filter)
-      (λ _ k. stamps_same (stamps_at s.filter k)) (λ _. raised_grows s.filter (indices_of m) stamps)
+      (λ _ way k. stamps_same (stamps_at s.filter way k)) (λ _. raised_grows s.filter (indices_of m) stamps)
 
   pub out_within :
       (line : ℕ) (stamps : Stamps) (o : Option ℕ) → stamps.write ≤ s.latest → stamps.read.0 ≤ s.latest
@@ -266,7 +266,7 @@ module _ (s : Condensed) (sound : Sound s) where
     abbrev now_in : List Slot
     now_in = in_slot s line i e
 
-    abbrev left : List Stamps
+    abbrev left : List (List Stamps)
     left = turned_out s.filter (slice_index_or s.slots i empty) line
 
     abbrev after : Condensed

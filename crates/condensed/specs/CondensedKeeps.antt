@@ -1,5 +1,5 @@
 -- The condensed book keeps what every book must.
-use Rattle.std.specs.Prelude.{◌≡◌, ℕ, ◌+◌, ◌<◌, ◌≤◌, max, true, false, List, map, get_or, replicate, is_some, Some, None, Option, ◌==◌, ◌≢◌, nat_lt, slice_index_or}
+use Rattle.std.specs.Prelude.{◌≡◌, ℕ, zero, suc, ◌+◌, ◌<◌, ◌≤◌, max, true, false, List, [], map, length, get_or, replicate, is_some, Some, None, Option, ◌==◌, ◌≢◌, nat_lt, slice_index_or}
 use Rattle.std.proofs.Common.{⊎_elim, sym, ap, ◌∙◌, arith}
 use Rattle.std.proofs.Math.Path.{refl, subst}
 use Rattle.std.proofs.lemmas.Bool.{cases_eq, cond-true, eq-eqb, ltb-true, and_parts, both_ways}
@@ -10,7 +10,7 @@ use Rattle.book.specs.Meaning.{Keeps, Grows, Stays, Notes, Reserves, Adds, Relea
 use Rattle.book.specs.Entries.{no_stamps, read_at, written_at, entry_read, entry_held, entry_more}
 use Rattle.book.specs.Entries.{entry_freed, free_with, stores_told, owner_told, warp_or_first}
 use Rattle.book.specs.Exact.{FitsBy}
-use Rattle.condensed.specs.Filter.{indices_of, filter_told, filter_raised}
+use Rattle.condensed.specs.Filter.{indices_of, stamps_at, filter_told, filter_raised}
 use Rattle.condensed.specs.Condensed.{Condensed, Sound, condensed, condensed_new, empty, same_line, holding, line_in}
 use Rattle.condensed.specs.Condensed.{entry_in, holds}
 use Rattle.condensed.specs.Condensed.{slot_of, slot_key, or_else, place_for, told_from, told, in_slot, vacated}
@@ -23,7 +23,7 @@ use Rattle.book.specs.ExactKeeps.{same_anywhere, numbered}
 use Rattle.condensed.specs.Indices.{indices_inside}
 use Rattle.condensed.specs.Sieve.{raised_grows, raised_reaches}
 use Rattle.condensed.specs.Slots.{Spot, spot, line_is}
-use Rattle.condensed.specs.CondensedTells.{told_inside, chosen_free, condensed_tells}
+use Rattle.condensed.specs.CondensedTells.{told_inside, chosen_free, condensed_tells, condensed_within}
 use Rattle.condensed.specs.CondensedCalls.{Kept, kept_same, within_now, within_raised, sound_sifted, sifted_kept}
 use Rattle.condensed.specs.CondensedCalls.{changed_here, changed_apart, sound_changed, sound_with, within_later}
 use Rattle.condensed.specs.CondensedCalls.{out_within, moved_apart, moved_numbered, moved_to, moved_here, moved_kept}
@@ -78,7 +78,7 @@ module _ (s : Condensed) (sound : Sound s) (line : ℕ) (lt : line < line_limit)
         → Sound (note_in s line t o) × Notes condensed s (note_in s line t o) line t
     notes_by None nowhere =
         let later : ℕ = max s.latest t.0 in
-        let filter : List Stamps = filter_raised s.filter (indices_of line) (read_at t) in
+        let filter : List (List Stamps) = filter_raised s.filter (indices_of line) (read_at t) in
         let after : Condensed = record { slots = s.slots; filter = filter; latest = later } in
         let kept : (n : ℕ) → n < line_limit → Kept (told s n) (told after n) =
         sifted_kept s sound filter later (raised_grows s.filter (indices_of line) (read_at t)) in
@@ -91,6 +91,7 @@ module _ (s : Condensed) (sound : Sound s) (line : ℕ) (lt : line < line_limit)
                 (raised_reaches s.filter (indices_of line) (read_at t) sound.four_ways (indices_inside line)).1;
             stays = λ n l. record { same_stores = (kept n l).same_stores; same_owner = (kept n l).same_owner };
             latest_bound = omega arith;
+            same_slots = refl;
           },
         )
     notes_by (Some i) here =
@@ -123,6 +124,7 @@ module _ (s : Condensed) (sound : Sound s) (line : ℕ) (lt : line < line_limit)
                 }))
                 (stays_by s after line kept n l) (cases_eq n line);
             latest_bound = omega arith;
+            same_slots = refl;
           },
         )
 
@@ -156,6 +158,7 @@ module _ (s : Condensed) (sound : Sound s) (line : ℕ) (lt : line < line_limit)
           passes = subst (λ x. t.0 < x.stamps.write) (sym is) (omega arith);
           stays = stays_by s after line kept;
           latest_bound = omega arith;
+          same_slots = refl;
         }
 
     pub reserves_by :
@@ -182,7 +185,7 @@ module _ (s : Condensed) (sound : Sound s) (line : ℕ) (lt : line < line_limit)
         its_line = line_is (line_in (get_or s.slots i empty)) line
             (subst (Spot s.slots line) here (spot s.slots line)).1
 
-        with_filter : List Stamps → Condensed
+        with_filter : List (List Stamps) → Condensed
         with_filter filter =
             record {
               slots = in_slot s line i (entry_held (told s line) t);
@@ -242,6 +245,7 @@ module _ (s : Condensed) (sound : Sound s) (line : ℕ) (lt : line < line_limit)
           same_owner = ap owner_told is ∙ same_owner_more was had ∙ sym (ap owner_told before);
           stays = stays_by s after line kept;
           latest_bound = omega arith;
+          same_slots = refl;
         },
       )
 
@@ -257,6 +261,7 @@ module _ (s : Condensed) (sound : Sound s) (line : ℕ) (lt : line < line_limit)
           no_stores = ap stores_told (told_inside s line lt ∙ ap (told_from s.slots s.filter line) nowhere);
           stays = stays_by s s line kept;
           latest_bound = omega arith;
+          same_slots = refl;
         },
       )
   releases_by (Some i) here =
@@ -276,13 +281,15 @@ module _ (s : Condensed) (sound : Sound s) (line : ℕ) (lt : line < line_limit)
           no_stores = ap stores_told is;
           stays = stays_by s after line kept;
           latest_bound = omega arith;
+          same_slots = refl;
         },
       )
 
 pub condensed_keeps : Keeps condensed
 condensed_keeps =
     record {
-      some_slot = omega arith;
+      some_slot = λ s sound. omega arith;
+      within_slots = condensed_within;
       tells = condensed_tells;
       notes = λ s sound line t can. notes_by s sound line (numbered line _ can) t (slot_of s.slots line) refl;
       reserves = λ s sound line t can.
@@ -301,22 +308,29 @@ module _ (n : ℕ) where
   new_slot : get_or (replicate 16 empty) n empty ≡ empty
   new_slot = same_anywhere 16 n empty
 
-  new_stamps : get_or (replicate 256 no_stamps) n no_stamps ≡ no_stamps
-  new_stamps = same_anywhere 256 n no_stamps
+pub new_stamps : (ways way k : ℕ) → stamps_at (replicate ways (replicate 64 no_stamps)) way k ≡ no_stamps
+new_stamps zero way k = refl
+new_stamps (suc ways) zero k = same_anywhere 64 k no_stamps
+new_stamps (suc ways) (suc way) k = new_stamps ways way k
+
+new_ways : (ways way : ℕ) → way < ways → length (get_or (replicate ways (replicate 64 no_stamps)) way []) ≡ 64
+new_ways zero way lt = absurd (omega arith)
+new_ways (suc ways) zero lt = refl
+new_ways (suc ways) (suc way) lt = new_ways ways way (omega arith)
 
 pub sound_new : Sound condensed_new
 sound_new =
     record {
       sixteen = refl;
-      four_ways = refl;
+      four_ways = record { four = refl; each = new_ways 4 };
       apart = λ i j h.
           absurd (both_ways _ refl
           (subst (λ x. same_line (line_in x) (line_in (get_or (replicate 16 empty) j empty)) ≡ true) (new_slot i) h));
       numbered = λ i n h. absurd (both_ways _ refl (subst (λ x. holds x n ≡ true) (new_slot i) h));
       slots_written = λ i. subst (λ x. (entry_in x).stamps.write ≤ 0) (sym (new_slot i)) (omega arith);
       slots_read = λ i. subst (λ x. (entry_in x).stamps.read.0 ≤ 0) (sym (new_slot i)) (omega arith);
-      filter_written = λ i. subst (λ x. x.write ≤ 0) (sym (new_stamps i)) (omega arith);
-      filter_read = λ i. subst (λ x. x.read.0 ≤ 0) (sym (new_stamps i)) (omega arith);
+      filter_written = λ way i. subst (λ x. x.write ≤ 0) (sym (new_stamps 4 way i)) (omega arith);
+      filter_read = λ way i. subst (λ x. x.read.0 ≤ 0) (sym (new_stamps 4 way i)) (omega arith);
       slots_stamped = λ i h. absurd (no_stores (subst (λ x. 0 < stores_told (entry_in x)) (new_slot i) h));
     }
   where

@@ -19,8 +19,8 @@ use Rattle.condensed.specs.declared.slot.Occupant.{Occupant}
 use Rattle.condensed.specs.declared.slot.Slot.{Slot}
 use Rattle.book.specs.ExactKeeps.{held_has_owner, free_has_none, held_counts}
 use Rattle.condensed.specs.Sieve.{told_written, told_read}
-use Rattle.condensed.specs.Slots.{found_in, same_from}
-use Rattle.condensed.specs.Counting.{different_lines}
+use Rattle.condensed.specs.Slots.{Spot, spot, line_is, found_in, same_from}
+use Rattle.book.specs.Counting.{different_lines, placed_lines}
 
 -- A line with a number is told from its slot or from the filter.
 pub told_inside : (s : Condensed) (n : ℕ) → n < line_limit → told s n
@@ -75,11 +75,34 @@ module _ (s : Condensed) (sound : Sound s) where
   held_placed n None other h = absurd (omega arith)
   held_placed n (Some i) other h = refl
 
+  pub line_at : ℕ → ℕ
+  line_at k = elim (line_in (get_or s.slots k empty)) [ None ↦ 0 | Some n ↦ n ]
+
+  -- Each reserved line is in a slot of its own, so no more than sixteen are reserved.
+  in_slots :
+      (n : ℕ) (o : Option ℕ) → Spot s.slots n o → 0 < stores_told (told_from s.slots s.filter n o)
+      → (i : ℕ) × (i < 16) × (line_at i ≡ n) × (0 < stores_told (entry_in (get_or s.slots i empty)))
+  unfolding line_at
+  in_slots n None sp held = absurd (omega arith)
+  in_slots n (Some i) sp held =
+      let sixteen = sound.sixteen in
+      let is : line_in (get_or s.slots i empty) ≡ Some n = line_is (line_in (get_or s.slots i empty)) n sp.1 in
+      (i, omega (arith, sp.0), ap (λ o. elim o [ None ↦ 0 | Some m ↦ m ]) is, held)
+
+  pub held_in :
+      (n : ℕ) → n < line_limit → reserved condensed s n ≡ true
+      → (i : ℕ) × (i < 16) × (line_at i ≡ n) × (0 < stores_told (entry_in (get_or s.slots i empty)))
+  held_in n lt held =
+      in_slots n (slot_of s.slots n) (spot s.slots n)
+      (subst (λ e. 0 < stores_told e) (told_inside s n lt) (held_counts (stores_told (told s n)) held))
+
+  pub condensed_within : reserved_lines condensed s ≤ 16
+  condensed_within =
+      placed_lines 16 line_limit line_at (reserved condensed s)
+      (λ n lt held. let place = held_in n lt held in (place.0, place.1, place.2))
+
   -- Where no slot may be taken, sixteen lines are reserved.
   module _ (full : (k : ℕ) → k < 16 → slot_key (slice_index_or s.slots k empty) ≡ None) where
-    line_at : ℕ → ℕ
-    line_at k = elim (line_in (get_or s.slots k empty)) [ None ↦ 0 | Some n ↦ n ]
-
     in_line : (k : ℕ) → k < 16 → holds (slice_index_or s.slots k empty) (line_at k) ≡ true
     unfolding line_at
     in_line k l =

@@ -1,5 +1,5 @@
 -- The filter: stamps of many lines in few entries, four ways of 64.
-use Rattle.std.specs.Prelude.{ℕ, ◌+◌, ◌/◌, ◌%◌, ◌<◌, cond, List, [], ◌∷◌, get_or, ◌==◌, bit_xor, slice_index, slice_index_or, slice_set}
+use Rattle.std.specs.Prelude.{◌≡◌, ℕ, Bool, true, ◌&&◌, nat_lt, ◌/◌, ◌%◌, ◌<◌, cond, List, [], ◌∷◌, length, get_or, ◌==◌, bit_xor, slice_index, slice_index_or, slice_set}
 use Rattle.book.specs.Entries.{no_stamps, raised, least}
 use Rattle.book.specs.declared.entry.Stamps.{Stamps}
 
@@ -7,6 +7,11 @@ use Rattle.book.specs.declared.entry.Stamps.{Stamps}
 unfoldable pub index_by : List ℕ → ℕ → ℕ
 index_by [] line = 0
 index_by (number ∷ numbers) line = bit_xor (cond (line % 2 == 1) number 0) (index_by numbers (line / 2))
+
+-- Numbers that are all within a way.
+abbrev pub small : List ℕ → Bool
+small [] = true
+small (x ∷ xs) = nat_lt x 64 && small xs
 
 -- The numbers of each way.
 abbrev pub way_0 : List ℕ
@@ -32,26 +37,36 @@ pub record Inside (four : List ℕ) : Type 0 where
   pub in_2 : get_or four 2 0 < 64
   pub in_3 : get_or four 3 0 < 64
 
-module _ (filter : List Stamps) where
-  abbrev pub stamps_at : ℕ → Stamps
-  stamps_at place = slice_index_or filter place no_stamps
+-- Four ways, each of 64 entries.
+pub record FourWays (filter : List (List Stamps)) : Type 0 where
+  pub four : length filter ≡ 4
+  pub each : (way : ℕ) → way < 4 → length (get_or filter way []) ≡ 64
+
+module _ (filter : List (List Stamps)) where
+  abbrev pub way_at : ℕ → List Stamps
+  way_at way = get_or filter way []
+
+  abbrev pub stamps_at : ℕ → ℕ → Stamps
+  stamps_at way index = slice_index_or (way_at way) index no_stamps
 
   -- One entry is raised to stamps, where it is earlier.
-  abbrev pub raised_at : ℕ → Stamps → List Stamps
-  raised_at place stamps = slice_set filter place (raised (stamps_at place) stamps)
+  abbrev pub raised_at : ℕ → ℕ → Stamps → List (List Stamps)
+  raised_at way index stamps =
+      slice_set filter way (slice_set (way_at way) index (raised (stamps_at way index) stamps))
 
--- The ways stand one after another. Told of a line is the smallest write stamp and the earliest mark of its four
--- entries; each of the two may come from another entry.
-unfoldable pub filter_told : List Stamps → List ℕ → Stamps
+-- Told of a line is the smallest write stamp and the earliest mark of its four entries; each of the two may come from
+-- another entry.
+unfoldable pub filter_told : List (List Stamps) → List ℕ → Stamps
 filter_told filter four =
     least
-    (least (stamps_at filter (slice_index four 0)) (stamps_at filter (64 + slice_index four 1)))
-    (least (stamps_at filter (128 + slice_index four 2)) (stamps_at filter (192 + slice_index four 3)))
+    (least (stamps_at filter 0 (slice_index four 0)) (stamps_at filter 1 (slice_index four 1)))
+    (least (stamps_at filter 2 (slice_index four 2)) (stamps_at filter 3 (slice_index four 3)))
 
 -- All four entries are raised.
-unfoldable pub filter_raised : List Stamps → List ℕ → Stamps → List Stamps
+unfoldable pub filter_raised : List (List Stamps) → List ℕ → Stamps → List (List Stamps)
 filter_raised filter four stamps =
     raised_at
-    (raised_at (raised_at (raised_at filter (slice_index four 0) stamps) (64 + slice_index four 1) stamps)
-    (128 + slice_index four 2) stamps)
-    (192 + slice_index four 3) stamps
+    (raised_at
+    (raised_at (raised_at filter 0 (slice_index four 0) stamps) 1 (slice_index four 1) stamps)
+    2 (slice_index four 2) stamps)
+    3 (slice_index four 3) stamps

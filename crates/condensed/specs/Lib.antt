@@ -1,6 +1,5 @@
 pub mod Filter
 pub mod Condensed
-pub mod Seats
 pub mod Pages
 pub mod Shared
 pub mod CondensedKeeps
@@ -8,5 +7,5 @@ pub mod Indices
 pub mod Sieve
 pub mod Slots
 pub mod CondensedTells
-pub mod Counting
 pub mod CondensedCalls
+pub mod Seventeenth

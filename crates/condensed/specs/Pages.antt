@@ -5,7 +5,7 @@ use Rattle.condensed.specs.declared.slot.Place.{Place}
 use Rattle.condensed.specs.declared.state.CondensedBook.{CondensedBook}
 
 abbrev pub condensed_page : CondensedBook → Condensed
-condensed_page b = page_of b.slots b.filter.entries b.latest
+condensed_page b = page_of b.slots b.filter.ways b.latest
 
 -- Every value of the book is one of the states that come up.
 pub sound_page : (b : CondensedBook) → Sound (condensed_page b)

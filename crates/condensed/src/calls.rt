@@ -1,18 +1,19 @@
 //! The condensed book: a few slots, and a filter that tells of all other lines no earlier than it must.
-ghost use Rattle.std.specs.Prelude.{◌≡◌, ◌<◌, ◌&&◌, nat_lt, max, is_some, Some, None, get_or};
+ghost use Rattle.std.specs.Prelude.{◌≡◌, ◌<◌, max, is_some, Some, None};
 ghost use Rattle.std.specs.Option.{option_map};
 ghost use Rattle.protocol.specs.Limits.{line_limit};
 ghost use Rattle.book.specs.Meaning.{New};
 ghost use Rattle.book.specs.Earliest.{Earliest};
 ghost use Rattle.book.specs.Exact.{FitsBy};
-ghost use Rattle.condensed.specs.Condensed.{condensed, condensed_new, slot_of, place_in, place_for, told_from, told};
-ghost use Rattle.condensed.specs.Condensed.{Bounded, empty, entry_in, vacated, with_slot, note_in};
+ghost use Rattle.condensed.specs.Condensed.{condensed, condensed_new, slot_of, place_in, place_for, told_by, told};
+ghost use Rattle.condensed.specs.Condensed.{Bounded, vacated, with_slot, note_in};
 ghost use Rattle.condensed.specs.Pages.{place_at, condensed_page, sound_page};
 ghost use Rattle.condensed.specs.Shared.{SharedMark};
+ghost use Rattle.condensed.specs.Seventeenth.{NoSlotForASeventeenth};
 ghost use Rattle.condensed.specs.CondensedKeeps.{condensed_keeps};
 
 use crate::filter::{Filter, indices};
-use crate::slot::{Occupant, Place, Slot, any_free};
+use crate::slot::{Occupant, Place, Slot, any_free, position_of};
 use crate::state::CondensedBook;
 use book::entry::{Entry, Stamps, can_be};
 use book::record::{Book, Told};
@@ -27,6 +28,7 @@ impl CondensedBook {
         ensures value { condensed_page result ≡ condensed_new }
         ensures new { New condensed (condensed_page result) }
         ensures never_earlier { Earliest condensed }
+        ensures full { NoSlotForASeventeenth }
         ensures example { SharedMark }
     {
         let slots = [Slot::EMPTY; 16];
@@ -34,27 +36,15 @@ impl CondensedBook {
             slots,
             filter: Filter::new(),
             latest: 0,
-            seats: [Place::FIRST; 4096],
         }
     }
 
     /// The slot that the line is in.
-    #[inline(always)]
     fn slot_of(&self, line: u32) -> Option<Place>
-        requires { line < line_limit }
         ensures { option_map place_at result ≡ slot_of self.now.slots line }
     {
-        let place = self.seats[line as usize];
-        let slot = self.slots[place.at as usize];
-        slot.holds(line).then_some(place)
-    }
-
-    /// The slot that the line is in, or else the one to take for it.
-    fn place_for(&self, line: u32) -> Option<Place>
-        requires { line < line_limit }
-        ensures { option_map place_at result ≡ place_for self.now.slots line }
-    {
-        self.place_in(self.slot_of(line))
+        let at = position_of(&self.slots, line)?;
+        Some(Place { at })
     }
 
     /// The slot that a line is in, or else the one to take for it.
@@ -65,34 +55,26 @@ impl CondensedBook {
             return inside;
         }
         let at = choose(&self.slots)?;
-        Some(Place { at: at as u8 })
+        Some(Place { at })
     }
 
-    /// Whether there is a slot for a line, by the slot that it is in.
-    #[inline(always)]
+    /// Whether there is a slot for a line, by the slot that it is in: none is chosen for it yet.
     fn has_room(&self, inside: Option<Place>) -> bool
         ensures { result ≡ is_some (place_in self.now.slots (option_map place_at inside)) }
     {
         inside.is_some() || any_free(&self.slots)
     }
 
-    /// What is told of the line in a slot.
-    #[inline(always)]
-    fn entry_at(&self, place: Place) -> Entry
-        ensures { result ≡ entry_in (get_or self.now.slots place.at empty) }
-    {
-        self.slots[place.at as usize].entry()
-    }
-
-    /// What the book tells of a line with a number, from the slot that it is in or else from the filter.
-    #[inline(always)]
+    /// What the book tells of a line, from the slot that it is in or else from the filter.
     fn told_in(&self, line: u32, inside: Option<Place>) -> Entry
-        ensures value { result
-            ≡ told_from self.now.slots self.now.filter.entries line (option_map place_at inside) }
+        ensures value { result ≡ told_by (condensed_page self.now) line (option_map place_at inside) }
         ensures bound { Bounded result.stamps self.now.latest }
     {
+        if line >= LINES {
+            return Entry::UNTOUCHED;
+        }
         match inside {
-            Some(place) => self.entry_at(place),
+            Some(place) => self.slots[place.at].entry(),
             None => Entry {
                 stamps: self.filter.told(indices(line)),
                 ..Entry::UNTOUCHED
@@ -102,27 +84,9 @@ impl CondensedBook {
 
     /// What the book tells of the line.
     fn at(&self, line: u32) -> Entry
-        ensures value { result ≡ told (condensed_page self.now) line }
-        ensures bound { Bounded result.stamps self.now.latest }
+        ensures { result ≡ told (condensed_page self.now) line }
     {
-        if line >= LINES {
-            return Entry::UNTOUCHED;
-        }
         self.told_in(line, self.slot_of(line))
-    }
-
-    /// What the book tells of the line, and whether there is a slot for it.
-    #[inline(always)]
-    fn with_room(&self, line: u32) -> (Entry, bool)
-        ensures entry { result.0 ≡ told (condensed_page self.now) line }
-        ensures bound { Bounded result.0.stamps self.now.latest }
-        ensures room { result.1 ≡ (nat_lt line line_limit && is_some (place_for self.now.slots line)) }
-    {
-        if line >= LINES {
-            return (Entry::UNTOUCHED, false);
-        }
-        let inside = self.slot_of(line);
-        (self.told_in(line, inside), self.has_room(inside))
     }
 
     /// Writes a line and its entry into the slot that is for it, and raises the latest stamp where it is earlier.
@@ -133,10 +97,9 @@ impl CondensedBook {
         ensures { condensed_page self.new
             ≡ with_slot (condensed_page self.old) line place.at entry stamp }
     {
-        self.slots[place.at as usize] = Slot {
+        self.slots[place.at] = Slot {
             occupant: Some(Occupant { line, entry }),
         };
-        self.seats[line as usize] = place;
         self.latest = self.latest.max(stamp);
     }
 
@@ -147,11 +110,10 @@ impl CondensedBook {
         ensures slots { self.new.slots ≡ self.old.slots }
         ensures latest { self.new.latest ≡ self.old.latest }
     {
-        self.filter.turn_out(self.slots[place.at as usize], line);
+        self.filter.turn_out(self.slots[place.at], line);
     }
 
     /// Notes a read of a line that is in no slot.
-    #[inline(always)]
     fn note_outside(&mut self, line: u32, time: (u32, u32))
         ensures { condensed_page self.new
             ≡ note_in (condensed_page self.old) line time None }
@@ -195,14 +157,14 @@ impl Book for CondensedBook {
         line < LINES && self.has_room(self.slot_of(line))
     }
 
-    #[inline(always)]
     fn told(&self, line: u32) -> Told {
-        let (entry, slot) = self.with_room(line);
+        let inside = self.slot_of(line);
+        let entry = self.told_in(line, inside);
         Told {
             written: entry.stamps.write,
             read: entry.stamps.read,
             owner: entry.owner(),
-            slot,
+            slot: line < LINES && self.has_room(inside),
         }
     }
 
@@ -210,13 +172,17 @@ impl Book for CondensedBook {
         self.latest
     }
 
-    #[inline(always)]
     fn note(&mut self, line: u32, time: (u32, u32)) -> Result<(), Refused> {
         if line >= LINES || !can_be(time) {
             return Err(Refused);
         }
         match self.slot_of(line) {
-            Some(place) => self.put(line, place, self.entry_at(place).read_at(time), time.0),
+            Some(place) => self.put(
+                line,
+                place,
+                self.slots[place.at].entry().read_at(time),
+                time.0,
+            ),
             None => self.note_outside(line, time),
         }
         Ok(())
@@ -242,7 +208,7 @@ impl Book for CondensedBook {
             return Err(Refused);
         }
         let place = self.slot_of(line).ok_or(Refused)?;
-        let entry = self.entry_at(place);
+        let entry = self.slots[place.at].entry();
         let stores = entry.stores();
         if stores == 0 || stores as usize >= STORES {
             return Err(Refused);
@@ -256,7 +222,7 @@ impl Book for CondensedBook {
             return Err(Refused);
         }
         if let Some(place) = self.slot_of(line) {
-            self.put(line, place, self.entry_at(place).with_stores(0), 0);
+            self.put(line, place, self.slots[place.at].entry().with_stores(0), 0);
         }
         Ok(())
     }

@@ -1,76 +1,86 @@
 //! Stamps of many lines in few entries.
-ghost use Rattle.std.specs.Prelude.{◌≡◌, ◌<◌, [], ◌∷◌, length, replicate};
+ghost use Rattle.std.specs.Prelude.{◌≡◌, ◌<◌, true, [], ◌∷◌, replicate};
 ghost use Rattle.book.specs.Entries.{no_stamps};
 ghost use Rattle.condensed.specs.Condensed.{turned_out};
-ghost use Rattle.condensed.specs.Filter.{index_by, indices_of, Inside, filter_told, filter_raised, raised_at};
+ghost use Rattle.condensed.specs.Filter.{index_by, indices_of, small, FourWays, Inside};
+ghost use Rattle.condensed.specs.Filter.{filter_told, filter_raised, raised_at};
 
-use crate::rows::ROWS;
 use crate::slot::Slot;
 use book::entry::Stamps;
 
-/// Four ways of 64 entries, one way after another. Each line has an entry in each way, and shares it with other lines.
+/// Four ways of 64 entries. Each line has an entry in each way, and shares it with other lines.
 #[derive(Drop)]
 pub struct Filter {
-    pub(crate) entries: [Stamps; 256],
-    ghost size: { length entries ≡ 256 },
+    pub(crate) ways: [[Stamps; 64]; 4],
+    ghost size: { FourWays ways },
 }
 
 /// The four entries of a line, as one index in each way.
-// A form that is fixed (docs/DECISIONS.md): one array by value. So each call that takes it asks where it lies.
-#[inline(always)]
+// A form that is fixed (docs/DECISIONS.md): one array by value.
 pub fn indices(line: u32) -> [usize; 4]
     ensures value { result ≡ indices_of line }
     ensures inside { Inside result }
     ensures example { indices_of 5 ≡ 5 ∷ 51 ∷ 16 ∷ 16 ∷ [] }
 {
-    let low = ROWS.low[(line % 64) as usize];
-    let high = ROWS.high[(line / 64 % 64) as usize];
     [
-        (low[0] ^ high[0]) as usize,
-        (low[1] ^ high[1]) as usize,
-        (low[2] ^ high[2]) as usize,
-        (low[3] ^ high[3]) as usize,
+        index(&[1, 2, 4, 8, 16, 32, 3, 6, 12, 24, 48, 33], line),
+        index(&[37, 11, 22, 44, 25, 50, 7, 14, 28, 56, 49, 35], line),
+        index(&[21, 42, 5, 10, 20, 40, 17, 34, 13, 26, 52, 41], line),
+        index(&[63, 31, 47, 55, 59, 61, 62, 1, 9, 18, 36, 27], line),
     ]
+}
+
+/// The exclusive or of a way's numbers for the bits set in the line's number, lowest first.
+fn index(numbers: &[usize; 12], line: u32) -> usize
+    ensures value { result ≡ index_by numbers.now line }
+    ensures inside { small numbers.now ≡ true → result < 64 }
+{
+    let mut index = 0;
+    for (bit, number) in numbers.iter().enumerate() {
+        if (line >> bit) % 2 == 1 {
+            index ^= *number;
+        }
+    }
+    index
 }
 
 impl Filter {
     /// A filter that tells no stamp of any line.
     pub fn new() -> Filter
-        ensures { result.entries ≡ replicate 256 no_stamps }
+        ensures { result.ways ≡ replicate 4 (replicate 64 no_stamps) }
     {
-        let entries = [Stamps::NONE; 256];
-        Filter { entries }
+        let ways = [[Stamps::NONE; 64]; 4];
+        Filter { ways }
     }
 
     /// The smallest write stamp and the earliest read mark of four entries.
     #[tactic(auto, unfolding(crate::specs::Filter::filter_told))]
     pub(crate) fn told(&self, four: [usize; 4]) -> Stamps
         requires { Inside four }
-        ensures { result ≡ filter_told self.now.entries four }
+        ensures { result ≡ filter_told self.now.ways four }
     {
         let [a, b, c, d] = four;
-        let low = self.entries[a].least(self.entries[64 + b]);
-        let high = self.entries[128 + c].least(self.entries[192 + d]);
+        let low = self.ways[0][a].least(self.ways[1][b]);
+        let high = self.ways[2][c].least(self.ways[3][d]);
         low.least(high)
     }
 
     /// Raises four entries to stamps, where they are earlier.
-    #[inline(always)]
     #[tactic(auto, unfolding(crate::specs::Filter::filter_raised))]
     pub(crate) fn raise(&mut self, four: [usize; 4], stamps: Stamps)
         requires { Inside four }
-        ensures { self.new.entries ≡ filter_raised self.old.entries four stamps }
+        ensures { self.new.ways ≡ filter_raised self.old.ways four stamps }
     {
         let [a, b, c, d] = four;
-        self.raise_at(a, stamps);
-        self.raise_at(64 + b, stamps);
-        self.raise_at(128 + c, stamps);
-        self.raise_at(192 + d, stamps);
+        self.raise_at(0, a, stamps);
+        self.raise_at(1, b, stamps);
+        self.raise_at(2, c, stamps);
+        self.raise_at(3, d, stamps);
     }
 
     /// The line in a slot, if it is another than the one that comes in, raises its entries to its stamps.
     pub(crate) fn turn_out(&mut self, slot: Slot, line: u32)
-        ensures { self.new.entries ≡ turned_out self.old.entries slot line }
+        ensures { self.new.ways ≡ turned_out self.old.ways slot line }
     {
         if let Some(out) = slot.occupant
             && out.line != line
@@ -79,11 +89,12 @@ impl Filter {
         }
     }
 
-    #[inline(always)]
-    fn raise_at(&mut self, place: usize, stamps: Stamps)
-        requires { place < 256 }
-        ensures { self.new.entries ≡ raised_at self.old.entries place stamps }
+    /// Raises one entry of a way to stamps, where it is earlier.
+    fn raise_at(&mut self, way: usize, index: usize, stamps: Stamps)
+        requires way { way < 4 }
+        requires index { index < 64 }
+        ensures { self.new.ways ≡ raised_at self.old.ways way index stamps }
     {
-        self.entries[place].raise(stamps);
+        self.ways[way][index] = self.ways[way][index].raised(stamps);
     }
 }

@@ -3,6 +3,5 @@
 
 pub mod calls;
 pub mod filter;
-mod rows;
 pub mod slot;
 pub mod state;

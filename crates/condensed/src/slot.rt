@@ -1,7 +1,6 @@
 //! A slot of the condensed book.
-ghost use Rattle.std.specs.Prelude.{◌≡◌, ◌<◌, is_some};
-ghost use Rattle.condensed.specs.Condensed.{holds, entry_in, slot_key};
-ghost use Rattle.std.specs.List.{list_any};
+ghost use Rattle.std.specs.Prelude.{◌≡◌, ◌<◌, length, is_some, IfSome};
+ghost use Rattle.condensed.specs.Condensed.{any_free, holds, entry_in, slot_of, slot_key};
 
 use book::entry::Entry;
 use choice::Ranked;
@@ -22,13 +21,8 @@ pub struct Slot {
 /// Which of the sixteen slots.
 #[derive(Clone, Copy)]
 pub(crate) struct Place {
-    pub(crate) at: u8,
+    pub(crate) at: usize,
     ghost inside: { at < 16 },
-}
-
-impl Place {
-    /// The first slot.
-    pub(crate) const FIRST: Place = Place { at: 0 };
 }
 
 impl Slot {
@@ -72,9 +66,18 @@ impl Ranked for Slot {
     }
 }
 
+/// The first of the slots that holds the line.
+#[tactic(auto, unfolding(crate::specs::Condensed::slot_of))]
+pub(crate) fn position_of(slots: &[Slot], line: u32) -> Option<usize>
+    ensures value { result ≡ slot_of slots.now line }
+    ensures within { IfSome result (λ at. at < length slots.now) }
+{
+    slots.iter().position(|slot| slot.holds(line))
+}
+
 /// Whether one of the slots may be taken.
 pub(crate) fn any_free(slots: &[Slot]) -> bool
-    ensures { result ≡ list_any (λ slot. is_some (slot_key slot)) slots.now }
+    ensures { result ≡ any_free slots.now }
 {
     slots.iter().any(|slot| slot.is_free())
 }

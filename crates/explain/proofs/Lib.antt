@@ -1,5 +1,8 @@
-pub mod Requests
-pub mod Texts
+pub mod Scan
 pub mod Lines
+pub mod Examples
+pub mod Digits
+pub mod Rows
+pub mod Ends
 pub mod Told
-pub mod Listed
+pub mod Files

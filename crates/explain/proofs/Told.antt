@@ -1,75 +1,156 @@
--- What is told of a file's vectors is the explanation of what the file says.
-use Rattle.std.proofs.Common.{◌≡◌, ℕ, List, length, IfOk, Ok, Err, vec_items, string_bytes}
-use Rattle.std.proofs.Common.{Option, Result, ◌++◌, ◌≤◌, drop, ap, ◌∙◌, sym, subst}
-use Rattle.std.proofs.lemmas.List.{drop_all}
+-- The rows of a run, call by call, and the text that has them.
+use Rattle.std.proofs.Common.{◌≡◌, ℕ, ◌+◌, ◌<◌, ◌≤◌, List, [], ◌∷◌, ◌++◌, length, drop, Option, IfOk}
+use Rattle.std.proofs.Common.{Result, string_bytes, fold, subst, append_assoc, append-nil}
+use Rattle.std.proofs.Common.{refl, sym, ap, ◌∙◌, add-one, drop-cons, slice_index_or}
+use Rattle.std.proofs.lemmas.List.{drop_all, map_push}
 use Rattle.std.specs.declared.string.String.{String}
+use Rattle.protocol.specs.declared.answer.Answer.{Answer}
 use Rattle.protocol.specs.declared.call.Call.{Call}
 use Rattle.protocol.specs.declared.fault.Fault.{Fault}
-use Rattle.memory.specs.Lines.{word_lines}
-use Rattle.book.specs.Exact.{exact, exact_new}
 use Rattle.book.specs.Meaning.{Kind}
-use Rattle.condensed.specs.Condensed.{condensed, condensed_new}
-use Rattle.rules.specs.Making.{make}
+use Rattle.rules.specs.Queue.{product}
+use Rattle.rules.specs.Runs.{Event, Run, event_of, goes_on, run}
 use Rattle.rules.specs.State.{Machine}
-use Rattle.calls.specs.declared.file.BookKind.{BookKind}
-use Rattle.calls.specs.declared.file.BookKind.TheVariants.{Exact, Condensed}
-use Rattle.calls.specs.declared.file.CallsFile.{CallsFile}
-use Rattle.explain.specs.Explained.{told_from, end_told, book_told, said_told}
+use Rattle.rules.specs.Steps.{step}
+use Rattle.machine.specs.Running.{answers_in}
+use Rattle.listing.specs.Listing.{call_rows, end_rows, run_text}
+use Rattle.listing.specs.Rows.{bad_row, call_row}
+use Rattle.explain.specs.Notes.{AddsRow, AddsRows, kept_from, without_notes}
+use Rattle.explain.proofs.Ends.{fault_told, if_told}
+use Rattle.explain.proofs.Rows.{call_row_kept}
+use Rattle.explain.proofs.Scan.{row_with_note, more_rows}
 
--- The explanation of a machine over some words, from a state of a book.
-abbrev pub words_told : (k : Kind) → k.State → List ℕ → List ℕ → List Call → Option Fault → ℕ → List ℕ
-words_told k page stamps values calls found limit =
-    told_from 1 (make k (word_lines values) page stamps) calls found limit
+module _ {k : Kind} where
+  -- The rows of calls from a place on, each made of the machine that those before it leave, and of the end.
+  unfoldable pub rows_from : ℕ → Machine k → List Call → Option Fault → ℕ → List ℕ
+  rows_from place m [] found limit = end_rows found m.lines limit
+  rows_from place m (call ∷ calls) found limit =
+      call_row place call (step (product k) m call).answer
+      ++ rows_from (place + 1) (step (product k) m call).machine calls found limit
 
--- Equal parts are told alike.
-pub told_alike :
-    {A E : Type 0} (k : Kind) (r : Result (String A) E) (page new : k.State) (st st' va va' : List ℕ)
-    (ca ca' : List Call) (found : Option Fault) (limit : ℕ)
-    → page ≡ new → st' ≡ st → va' ≡ va → ca' ≡ ca → limit ≡ length va
-    → IfOk r (λ t. string_bytes t ≡ words_told k page st' va' ca' found limit)
-    → IfOk r (λ t. string_bytes t ≡ words_told k new st va ca found (length va))
-told_alike k (Ok t) page new st st' va va' ca ca' found limit p s v c n h = cc
-told_alike k (Err e) page new st st' va va' ca ca' found limit p s v c n h = tt
+  -- What calls leave, and what they answer.
+  abbrev after : Machine k → List Call → Machine k
+  after m [] = m
+  after m (call ∷ calls) = after (step (product k) m call).machine calls
 
-module _ {A E : Type 0} (r : Result (String A) E) (file : CallsFile) where
-  abbrev stamps : List ℕ
-  stamps = vec_items file.stamps
+  abbrev answered : Machine k → List Call → List (Result Answer Fault)
+  answered m [] = []
+  answered m (call ∷ calls) = (step (product k) m call).answer ∷ answered (step (product k) m call).machine calls
 
-  abbrev values : List ℕ
-  values = vec_items file.values
+  run_after :
+      (r : Run k) (calls : List Call) → (fold (goes_on (product k)) r calls).machine ≡ after r.machine calls
+  unfolding goes_on
+  run_after r [] = refl
+  run_after r (call ∷ calls) = run_after (goes_on (product k) r call) calls
 
-  abbrev calls : List Call
-  calls = vec_items file.calls
+  run_answered :
+      (r : Run k) (calls : List Call)
+      → answers_in (fold (goes_on (product k)) r calls).events ≡ answers_in r.events ++ answered r.machine calls
+  unfolding goes_on
+  run_answered r [] = sym (append-nil _)
+  run_answered r (call ∷ calls) =
+      let s = step (product k) r.machine call in
+      run_answered (goes_on (product k) r call) calls
+      ∙ ap (λ answers. answers ++ answered s.machine calls)
+      (map_push (λ (e : Event). e.answer) r.events (event_of (product k) r.machine call))
+      ∙ append_assoc (answers_in r.events) (s.answer ∷ []) (answered s.machine calls)
 
-  told_by :
-      (kind : BookKind) → file.book ≡ kind
-      → IfOk r (λ t. string_bytes t ≡ book_told kind stamps values calls file.fault)
-      → IfOk r (λ t. string_bytes t ≡ said_told file)
-  told_by kind is h =
-      subst (λ b. IfOk r (λ t. string_bytes t ≡ book_told b stamps values calls file.fault)) (sym is) h
+  rows_of_calls :
+      (place : ℕ) (m : Machine k) (calls : List Call) (found : Option Fault) (limit : ℕ)
+      → call_rows place calls (answered m calls) ++ end_rows found (after m calls).lines limit
+      ≡ rows_from place m calls found limit
+  unfolding rows_from
+  rows_of_calls place m [] found limit = refl
+  rows_of_calls place m (call ∷ calls) found limit =
+      let s = step (product k) m call in
+      append_assoc (call_row place call s.answer) (call_rows (place + 1) calls (answered s.machine calls))
+      (end_rows found (after s.machine calls).lines limit)
+      ∙ ap (λ t. call_row place call s.answer ++ t) (rows_of_calls (place + 1) s.machine calls found limit)
 
-  pub exact_told :
-      file.book ≡ Exact
-      → IfOk r (λ t. string_bytes t ≡ words_told exact exact_new stamps values calls file.fault (length values))
-      → IfOk r (λ t. string_bytes t ≡ said_told file)
-  unfolding book_told
-  exact_told is h = told_by Exact is h
+  pub rows_of_run :
+      (m : Machine k) (calls : List Call) (found : Option Fault) (limit : ℕ)
+      → run_text (run (product k) m calls) calls found limit ≡ rows_from 1 m calls found limit
+  rows_of_run m calls found limit =
+      let start : Run k = record { machine = m; events = [] } in
+      ap (λ answers. call_rows 1 calls answers ++ end_rows found (run (product k) m calls).machine.lines limit)
+      (run_answered start calls)
+      ∙ ap (λ (n : Machine k). call_rows 1 calls (answered m calls) ++ end_rows found n.lines limit)
+      (run_after start calls)
+      ∙ rows_of_calls 1 m calls found limit
 
-  pub condensed_told :
-      file.book ≡ Condensed
-      → IfOk r (λ t. string_bytes t ≡ words_told condensed condensed_new stamps values calls file.fault (length values))
-      → IfOk r (λ t. string_bytes t ≡ said_told file)
-  unfolding book_told
-  condensed_told is h = told_by Condensed is h
+-- A text has all rows but the last ones.
+pub record Awaits (text rest whole : List ℕ) : Type 0 where
+  pub completed : (new : List ℕ) → AddsRows rest text new → without_notes new ≡ whole
 
--- Where no call is left, the end is.
-pub all_told :
-    {A E : Type 0} {k : Kind} (r : Result (String A) E) (m : Machine k) (rest : List Call) (place i : ℕ)
-    (found : Option Fault) (limit : ℕ) (text whole : List ℕ)
-    → length rest ≤ i → text ++ told_from place m (drop i rest) found limit ≡ whole
-    → IfOk r (λ t. string_bytes t ≡ text ++ end_told found m.lines limit) → IfOk r (λ t. string_bytes t ≡ whole)
-all_told (Err error) m rest place i found limit text whole over e h = tt
-all_told (Ok t) m rest place i found limit text whole over e h =
-    h
-    ∙ ap (λ left. text ++ told_from place m left found limit) (sym (drop_all i rest over))
-    ∙ e
+awaits_all : (whole : List ℕ) → Awaits [] whole whole
+unfolding kept_from
+awaits_all whole =
+    record {
+      completed = λ new h.
+          ap (λ t. without_notes t) (h.grown ∙ sym (append-nil h.lines))
+          ∙ h.rows_alone []
+          ∙ append-nil whole;
+    }
+
+pub awaits_less :
+    (row rest whole old new : List ℕ) → Awaits old (row ++ rest) whole → AddsRows row old new → Awaits new rest whole
+awaits_less row rest whole old new h g =
+    record { completed = λ last more. h.completed last (more_rows row rest old new last g more) }
+
+pub awaits_first : (text whole : List ℕ) → text ≡ [] → Awaits text whole whole
+awaits_first text whole e = subst (λ t. Awaits t whole whole) (sym e) (awaits_all whole)
+
+-- The calls that are left, one call less.
+one_call_more :
+    (calls : List Call) (i : ℕ) (other : Call) → i < length calls
+    → drop i calls ≡ slice_index_or calls i other ∷ drop (i + 1) calls
+one_call_more calls i other more = rw add-one (drop-cons calls i other more)
+
+module _ {k : Kind} where
+  -- A call's row is added.
+  pub awaits_next :
+      (m m' : Machine k) (calls : List Call) (i : ℕ) (other : Call) (found : Option Fault) (limit : ℕ)
+      (old new whole : List ℕ)
+      → Awaits old (rows_from (i + 1) m (drop i calls) found limit) whole
+      → i < length calls
+      → m' ≡ (step (product k) m (slice_index_or calls i other)).machine
+      → AddsRow
+      (call_row (i + 1) (slice_index_or calls i other) (step (product k) m (slice_index_or calls i other)).answer)
+      old new
+      → Awaits new (rows_from (i + 1 + 1) m' (drop (i + 1) calls) found limit) whole
+  unfolding rows_from
+  awaits_next m m' calls i other found limit old new whole h more after g =
+      let call : Call = slice_index_or calls i other in
+      let rest : List ℕ = rows_from (i + 1 + 1) (step (product k) m call).machine (drop (i + 1) calls) found limit in
+      let row : List ℕ = call_row (i + 1) call (step (product k) m call).answer in
+      let before : Awaits old (row ++ rest) whole =
+      subst (λ cs. Awaits old (rows_from (i + 1) m cs found limit) whole) (one_call_more calls i other more) h in
+      subst (λ n. Awaits new (rows_from (i + 1 + 1) n (drop (i + 1) calls) found limit) whole) (sym after)
+      (awaits_less row rest whole old new before
+      (row_with_note row old new (call_row_kept (i + 1) call (step (product k) m call).answer) g))
+
+  -- The end is added.
+  pub all_told :
+      {A E : Type 0} (r : Result (String A) E) (first m : Machine k) (calls : List Call) (i : ℕ)
+      (found : Option Fault) (limit : ℕ) (text : List ℕ)
+      → length calls ≤ i
+      → Awaits text (rows_from (i + 1) m (drop i calls) found limit) (rows_from 1 first calls found limit)
+      → IfOk r (λ t. AddsRows (end_rows found m.lines limit) text (string_bytes t))
+      → IfOk r (λ t. without_notes (string_bytes t) ≡ run_text (run (product k) first calls) calls found limit)
+  unfolding rows_from
+  all_told r first m calls i found limit text over h g =
+      let whole : List ℕ = rows_from 1 first calls found limit in
+      let before : Awaits text (end_rows found m.lines limit) whole =
+      subst (λ cs. Awaits text (rows_from (i + 1) m cs found limit) whole) (drop_all i calls over) h in
+      if_told r (AddsRows (end_rows found m.lines limit) text)
+      (λ t. without_notes t ≡ run_text (run (product k) first calls) calls found limit)
+      (λ new more. before.completed new more ∙ sym (rows_of_run first calls found limit)) g
+
+-- A damaged header is all that is told.
+pub damage_told :
+    {A E : Type 0} (r : Result (String A) E) (fault : Fault) (old : List ℕ) → old ≡ []
+    → IfOk r (λ t. AddsRow (bad_row fault) old (string_bytes t))
+    → IfOk r (λ t. without_notes (string_bytes t) ≡ bad_row fault)
+damage_told r fault old e h =
+    if_told r (AddsRow (bad_row fault) old) (λ t. without_notes t ≡ bad_row fault)
+    (λ new g. (awaits_first old (bad_row fault) e).completed new (fault_told fault old new g)) h

@@ -1,5 +1,6 @@
-pub mod Before
+pub mod Notes
+pub mod Examples
 pub mod Waiting
-pub mod Row
-pub mod Explained
-pub mod Listed
+pub mod Before
+pub mod After
+pub mod Call

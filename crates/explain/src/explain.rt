@@ -1,9 +1,12 @@
 //! From the bytes of a calls file to its explanation.
 ghost use Rattle.std.specs.Prelude.{◌≡◌, IfOk, string_bytes};
-ghost use Rattle.rules.specs.Making.{make};
-ghost use Rattle.machine.specs.Meaning.{state};
-ghost use Rattle.explain.specs.Explained.{told_from, said_told, explanation};
-ghost use Rattle.explain.specs.Listed.{ExplainsTheListing};
+ghost use Rattle.rules.specs.Runs.{run};
+ghost use Rattle.machine.specs.Meaning.{state, policy_of};
+ghost use Rattle.machine.specs.Running.{run_of};
+ghost use Rattle.listing.specs.Listing.{run_text, said_text, listing_text};
+ghost use Rattle.listing.specs.Rows.{bad_row};
+ghost use Rattle.explain.specs.Notes.{without_notes, DropsNotes};
+ghost use Rattle.explain.specs.Examples.{ByExample};
 
 use crate::end::{add_end, add_fault};
 use crate::row::add_row;
@@ -16,24 +19,37 @@ use listing::listing::Script;
 use machine::state::Machine;
 use memory::store::Memory;
 use memory::word::WordMemory;
+use protocol::fault::Fault;
 use std::alloc::{AllocError, Global};
 
 /// The explanation of a calls file: its listing, and under each row, indented, why it is as it is. Nothing is told only
 /// where memory is wanting.
+#[tactic(auto, using(crate::proofs::Scan::drops_notes, crate::proofs::Examples::by_example))]
 pub fn explain(heap: Global, bytes: &[u8]) -> Result<String, AllocError>
-    ensures text { IfOk result (λ t. string_bytes t ≡ explanation bytes.now) }
-    ensures listing { ExplainsTheListing }
+    ensures listing { IfOk result (λ t. without_notes (string_bytes t) ≡ listing_text bytes.now) }
+
+    // What it is to leave the notes out of a text: for every text, and by example.
+    ensures drops { DropsNotes }
+    ensures examples { ByExample }
 {
     match read(heap, bytes) {
         Ok(file) => explain_file(heap, file),
-        Err(ReadError::Damaged(fault)) => add_fault(String::new(heap), fault),
+        Err(ReadError::Damaged(fault)) => explain_damage(heap, fault),
         Err(ReadError::NoMemory) => Err(AllocError),
     }
 }
 
+// The explanation of a file whose header is damaged.
+#[tactic(auto, using(crate::proofs::Told::damage_told))]
+fn explain_damage(heap: Global, fault: Fault) -> Result<String, AllocError>
+    ensures { IfOk result (λ t. without_notes (string_bytes t) ≡ bad_row fault) }
+{
+    add_fault(heap, String::new(heap), fault)
+}
+
 // The explanation of a file whose header is sound.
 fn explain_file(heap: Global, file: CallsFile) -> Result<String, AllocError>
-    ensures { IfOk result (λ t. string_bytes t ≡ said_told file) }
+    ensures { IfOk result (λ t. without_notes (string_bytes t) ≡ said_text file) }
 {
     let CallsFile {
         book,
@@ -64,8 +80,8 @@ pub fn explain_script<M: Memory + Drop, B: Book + Drop>(
     memory: M,
     book: B,
 ) -> Result<String, AllocError>
-    ensures { IfOk result (λ t. string_bytes t ≡ told_from 1
-        (make B.Book.kind (M.Memory.at memory) (B.Book.model book) script.entry.stamps.now)
+    ensures { IfOk result (λ t. without_notes (string_bytes t) ≡ run_text
+        (run_of B.Book.kind (M.Memory.at memory) (B.Book.model book) script.entry.stamps.now script.entry.calls.now)
         script.entry.calls.now script.entry.fault script.entry.lines) }
 {
     let (machine, _) = Machine::make(memory, book, script.stamps);
@@ -73,18 +89,19 @@ pub fn explain_script<M: Memory + Drop, B: Book + Drop>(
 }
 
 // The explanation of what a machine answers to some calls.
+#[tactic(auto, using(crate::proofs::Told::awaits_first))]
 fn explain_calls<M: Memory + Drop, B: Book + Drop>(
     heap: Global,
     script: Script<'_>,
     mut machine: Machine<M, B>,
 ) -> Result<String, AllocError>
-    ensures { IfOk result (λ t. string_bytes t ≡ told_from 1
-        (state M.Memory.at B.Book.kind B.Book.model machine)
+    ensures { IfOk result (λ t. without_notes (string_bytes t) ≡ run_text
+        (run (policy_of B.Book.kind machine) (state M.Memory.at B.Book.kind B.Book.model machine) script.entry.calls.now)
         script.entry.calls.now script.entry.fault script.entry.lines) }
 {
     let mut text = String::new(heap);
     for (i, call) in script.calls.iter().enumerate() {
         text = add_row(heap, text, &mut machine, i as u64 + 1, *call)?;
     }
-    add_end(text, &machine, script.fault, script.lines)
+    add_end(heap, text, &machine, script.fault, script.lines)
 }

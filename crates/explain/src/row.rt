@@ -1,71 +1,49 @@
 //! A call's row, and under it why it is as it is.
-ghost use Rattle.std.specs.Prelude.{◌≡◌, ◌++◌, IfOk, OnOk, string_bytes};
-ghost use Rattle.rules.specs.Queue.{product};
+ghost use Rattle.std.specs.Prelude.{◌≡◌, IfOk, OnOk, string_bytes};
 ghost use Rattle.rules.specs.Steps.{step};
-ghost use Rattle.machine.specs.Meaning.{state};
-ghost use Rattle.explain.specs.Row.{after_rows, explained_row, meaning_row};
+ghost use Rattle.machine.specs.Meaning.{state, policy_of};
+ghost use Rattle.listing.specs.Rows.{call_row};
+ghost use Rattle.explain.specs.Notes.{AddsRow};
 
-use crate::before::{add_line, add_step, find_line, find_verdict};
-use crate::waiting::{add_settled, add_waits, find_waiting};
+use crate::call::{CallFacts, make_call};
+use crate::note::add_note;
 use book::record::Book;
 use listing::text::add_call_row;
 use machine::state::Machine;
 use memory::store::Memory;
-use protocol::answer::Answer;
 use protocol::call::Call;
-use rules::state::Request;
 use std::alloc::{AllocError, Global};
-use wording::answers::AnswerInWords;
-use wording::calls::CallInWords;
 
-/// Makes a call of the machine, and gives the text with its row and why it is as it is: what it means, the step that
-/// decided it, its line before it, whom it settled, and who waits on whom after it.
+/// Makes a call of the machine, and gives the text with its row and a note: what the call means, what it met and what
+/// it left.
 pub fn add_row<M: Memory, B: Book>(
     heap: Global,
-    mut text: String,
+    text: String,
     machine: &mut Machine<M, B>,
     place: u64,
     call: Call,
 ) -> Result<String, AllocError>
     ensures after { OnOk result (state M.Memory.at B.Book.kind B.Book.model machine.new
-        ≡ (step (product B.Book.kind) (state M.Memory.at B.Book.kind B.Book.model machine.old) call).machine) }
-    ensures text { IfOk result (λ t. string_bytes t ≡ string_bytes text
-        ++ explained_row place (state M.Memory.at B.Book.kind B.Book.model machine.old) call) }
+        ≡ (step (policy_of B.Book.kind machine.old) (state M.Memory.at B.Book.kind B.Book.model machine.old) call).machine) }
+    ensures text { IfOk result (λ t. AddsRow
+        (call_row place call
+        (step (policy_of B.Book.kind machine.old) (state M.Memory.at B.Book.kind B.Book.model machine.old) call).answer)
+        (string_bytes text) (string_bytes t)) }
 {
-    let met = find_verdict(machine, call);
-    let stamp = machine.stamp(call.warp);
-    let line = add_line(String::new(heap), machine, find_line(machine, call))?;
-    let waited = find_waiting(heap, machine)?;
-    let answer = machine.call(call);
-    add_call_row(&mut text, place, call, answer)?;
-    let text = add_meaning(text, call, answer)?;
-    let mut text = add_step(text, answer, stamp, met)?;
-    text.push_str(line.as_str())?;
-    add_after(heap, text, machine, waited.as_slice())
+    let facts = make_call(heap, machine, call)?;
+    add_facts(heap, text, place, &facts)
 }
 
-// The text with what a call and its answer mean.
-#[tactic(auto, unfolding(crate::specs::Row::meaning_row))]
-fn add_meaning(mut text: String, call: Call, answer: Answer) -> Result<String, AllocError>
-    ensures { IfOk result (λ t. string_bytes t ≡ string_bytes text ++ meaning_row call answer) }
-{
-    let call = CallInWords { call };
-    let answer = AnswerInWords { answer };
-    writeln!(text, "    {call}: {answer}")?;
-    Ok(text)
-}
-
-// The text with what a call has left, if those who waited before it are known.
-fn add_after<M: Memory, B: Book>(
+// The text with the row of a call that has been made, and a note of its facts.
+fn add_facts(
     heap: Global,
-    text: String,
-    machine: &Machine<M, B>,
-    waited: &[Request],
+    mut text: String,
+    place: u64,
+    facts: &CallFacts,
 ) -> Result<String, AllocError>
-    ensures { IfOk result (λ t. string_bytes t ≡ string_bytes text
-        ++ after_rows (state M.Memory.at B.Book.kind B.Book.model machine.now) waited.now) }
+    ensures { IfOk result (λ t. AddsRow (call_row place facts.now.call facts.now.reply)
+        (string_bytes text) (string_bytes t)) }
 {
-    let waiting = find_waiting(heap, machine)?;
-    let text = add_settled(text, machine, waited)?;
-    add_waits(text, machine, waiting.as_slice())
+    add_call_row(&mut text, place, facts.call, facts.reply)?;
+    add_note(heap, text, facts)
 }

@@ -4,10 +4,9 @@
 ghost use Rattle.std.specs.Io.{ReadsAtMost};
 
 use anyhow::Context;
-use calls::reader::enough_bytes;
 use command::{Command, Source, read_command};
 use explain::explain::explain;
-use listing::listing::list;
+use listing::listing::{enough_bytes, list};
 use report::report::make_report;
 use std::fs::File;
 use std::io::{Read, Write};

@@ -1,25 +1,26 @@
--- A place's front and its last two digits are its digits.
-use Rattle.std.proofs.Common.{◌≡◌, ℕ, ◌+◌, ◌-◌, ◌/◌, ◌%◌, ◌^◌, ◌<◌, ◌≤◌, List, ◌++◌, length, drop, sym, ap, ◌∙◌, append_assoc, drop-drop, arith}
-use Rattle.std.proofs.lemmas.List.{drop-append-le}
-use Rattle.std.specs.Fmt.{decimal}
-use Rattle.itoa.proofs.Decimal.{decimal_pair}
-use Rattle.listing.specs.Places.{two_digits}
+-- Files that are read alike are listed alike.
+use Rattle.std.proofs.Common.{◌≡◌, ℕ, List, Some, None, Option, refl, ap, ◌∙◌}
+use Rattle.protocol.specs.declared.fault.Fault.{Fault}
+use Rattle.calls.specs.Format.{header_fault, book_named, stamps, values, file_rows}
+use Rattle.calls.specs.Front.{ReadAlike, Suffices}
+use Rattle.calls.specs.declared.file.BookKind.{BookKind}
+use Rattle.listing.specs.Listing.{sound_text, file_text, listing_text, FrontIsEnough}
 
-pub place_text :
-    (first n : ℕ) (old digits all : List ℕ) → 0 < first → first % 100 ≡ 0 → n < 100 → first < 2 ^ 63
-    → digits ≡ two_digits n ++ old → all ≡ decimal (first / 100) ++ digits → all ≡ decimal (first + n) ++ old
-place_text first n old digits all some hundred below fits d e =
-    let front : (first + n) / 100 ≡ first / 100 = omega arith in
-    let last : (first + n) % 100 ≡ n = omega arith in
-    e ∙ ap (λ ds. decimal (first / 100) ++ ds) d ∙ sym (append_assoc (decimal (first / 100)) (two_digits n) old)
-    ∙ ap (λ ds. ds ++ old) (sym (rw (decimal_pair (first + n) (omega arith) (omega arith), front, last)))
+module _ (a b : List ℕ) where
+  sound_alike :
+      (named : Option BookKind) → stamps a ≡ stamps b → values a ≡ values b → file_rows a ≡ file_rows b
+      → sound_text named a ≡ sound_text named b
+  sound_alike None s v r = refl
+  sound_alike (Some kind) s v r = cc
 
--- Of the bytes that are copied those that count are the front.
-pub front_copied :
-    (start end : ℕ) (digits front rest page : List ℕ)
-    → length digits ≡ 8 → start ≤ 8 → drop start digits ≡ front → 8 ≤ end
-    → drop (end - 8) page ≡ digits ++ rest → drop (end - (8 - start)) page ≡ front ++ rest
-front_copied start end digits front rest page size within text room copied =
-    let at : end - (8 - start) ≡ end - 8 + start = omega arith in
-    ap (λ k. drop k page) at ∙ sym (drop-drop start (end - 8) page) ∙ ap (drop start) copied
-    ∙ drop-append-le start digits rest (omega arith) ∙ ap (λ t. t ++ rest) text
+  file_alike : (alike : ReadAlike a b) (found : Option Fault) → header_fault b ≡ found → file_text found a ≡ file_text found b
+  file_alike alike (Some fault) is = refl
+  file_alike alike None is =
+      ap (λ letter. sound_text (book_named letter) a) alike.same_book
+      ∙ sound_alike _ (alike.same_stamps is) (alike.same_values is) (alike.same_rows is)
+
+  listed_alike : ReadAlike a b → listing_text a ≡ listing_text b
+  listed_alike alike = ap (λ found. file_text found a) alike.same_fault ∙ file_alike alike (header_fault b) refl
+
+pub front_listed : (n : ℕ) → Suffices n → FrontIsEnough n
+front_listed n suffices bytes = listed_alike _ bytes (suffices bytes)

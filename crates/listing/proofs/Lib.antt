@@ -2,3 +2,4 @@ mod MemRows
 mod CallRows
 mod Listed
 mod Fronts
+mod Tails

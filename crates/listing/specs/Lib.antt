@@ -1,3 +1,3 @@
 pub mod Listing
 pub mod Rows
-pub mod Places
+pub mod Tail

@@ -1,5 +1,5 @@
 -- The text of a listing, from the bytes of a calls file.
-use Rattle.std.specs.Prelude.{ℕ, zero, suc, ◌+◌, List, [], ◌∷◌, ◌++◌, length, Some, None, vec_items, Option, slice_index}
+use Rattle.std.specs.Prelude.{◌≡◌, ℕ, zero, suc, ◌+◌, List, [], ◌∷◌, ◌++◌, length, take, Some, None, vec_items, Option, Result, slice_index}
 use Rattle.protocol.specs.declared.answer.Answer.{Answer}
 use Rattle.protocol.specs.declared.call.Call.{Call}
 use Rattle.protocol.specs.declared.fault.Fault.{Fault}
@@ -15,8 +15,8 @@ use Rattle.calls.specs.declared.file.BookKind.TheVariants.{Exact, Condensed}
 use Rattle.calls.specs.declared.file.CallsFile.{CallsFile}
 use Rattle.listing.specs.Rows.{mem_row, bad_row, call_row}
 
--- The rows of some calls with their answers, the first of them at a place.
-abbrev pub call_rows : ℕ → List Call → List Answer → List ℕ
+-- The rows of some calls with their answers or refusals, the first of them at a place.
+abbrev pub call_rows : ℕ → List Call → List (Result Answer Fault) → List ℕ
 call_rows place [] answers = []
 call_rows place (call ∷ calls) [] = []
 call_rows place (call ∷ calls) (answer ∷ answers) =
@@ -37,7 +37,7 @@ abbrev pub end_rows : Option Fault → Lines → ℕ → List ℕ
 end_rows None lines limit = mem_rows lines limit
 end_rows (Some fault) lines limit = bad_row fault
 
--- The listing of a run: its calls with their answers, numbered from 1, and the end.
+-- The listing of a run: its calls with their answers or refusals, numbered from 1, and the end.
 abbrev pub run_text : {k : Kind} → Run k → List Call → Option Fault → ℕ → List ℕ
 run_text r calls found limit =
     call_rows 1 calls (answers_in r.events) ++ end_rows found r.machine.lines limit
@@ -67,3 +67,7 @@ file_text (Some fault) bytes = bad_row fault
 
 abbrev pub listing_text : List ℕ → List ℕ
 listing_text bytes = file_text (header_fault bytes) bytes
+
+-- So many first bytes of any file are listed as all of it is.
+abbrev pub FrontIsEnough : ℕ → Type 0
+FrontIsEnough n = (bytes : List ℕ) → listing_text (take n bytes) ≡ listing_text bytes

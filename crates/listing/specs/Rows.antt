@@ -1,10 +1,10 @@
 -- The rows of a listing, byte for byte. A row ends with a line feed.
-use Rattle.std.specs.Prelude.{ℕ, List, ◌∷◌, ◌++◌, codes, decimal}
-use Rattle.protocol.specs.Answers.{answer_text}
+use Rattle.std.specs.Prelude.{ℕ, List, ◌∷◌, ◌++◌, Result, codes, decimal}
+use Rattle.protocol.specs.Answers.{reply_text}
 use Rattle.protocol.specs.Calls.{op_letter}
+use Rattle.protocol.specs.Faults.{refusal_number}
 use Rattle.protocol.specs.declared.answer.Answer.{Answer}
 use Rattle.protocol.specs.declared.call.Call.{Call}
-use Rattle.protocol.specs.Faults.{refusal_number}
 use Rattle.protocol.specs.declared.fault.Fault.{Fault}
 
 -- A row of a word and two numbers.
@@ -19,15 +19,12 @@ mem_row line value = pair_row (codes "mem ") line value
 abbrev pub bad_row : Fault → List ℕ
 bad_row fault = pair_row (codes "bad ") (refusal_number fault.refusal) fault.number
 
--- The end of a call's row: its answer.
-abbrev pub answer_row : Answer → List ℕ
-answer_row answer = answer_text answer ++ codes "\n"
+-- The end of a call's row: its answer, or its refusal.
+abbrev pub reply_row : Result Answer Fault → List ℕ
+reply_row reply = reply_text reply ++ codes "\n"
 
--- A call's row but for its place: its letter, its warp and its answer.
-abbrev pub call_end : Call → Answer → List ℕ
-call_end call answer =
-    (codes " " ++ (op_letter call.op ∷ codes " ")) ++ (decimal call.warp ++ (codes " " ++ answer_row answer))
-
--- A call's row, with its place in the run, from 1.
-abbrev pub call_row : ℕ → Call → Answer → List ℕ
-call_row place call answer = decimal place ++ call_end call answer
+-- A call's row: its place in the run, from 1, its letter, its warp, and its answer or its refusal.
+abbrev pub call_row : ℕ → Call → Result Answer Fault → List ℕ
+call_row place call reply =
+    decimal place
+    ++ ((codes " " ++ (op_letter call.op ∷ codes " ")) ++ (decimal call.warp ++ (codes " " ++ reply_row reply)))

@@ -2,9 +2,8 @@
 #![tactic(auto)]
 
 pub mod listing;
-mod pages;
-mod place;
 mod row;
+mod rows;
 #[cfg(test)]
 mod tests;
 pub mod text;

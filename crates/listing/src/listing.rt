@@ -1,26 +1,24 @@
 //! From the bytes of a calls file to the text of its listing.
-ghost use Rattle.std.specs.Prelude.{◌≡◌, IfOk, string_bytes};
+ghost use Rattle.std.specs.Prelude.{◌≡◌, ◌+◌, IfOk, string_bytes};
+ghost use Rattle.calls.specs.Front.{longest_file};
 ghost use Rattle.machine.specs.Running.{run_of};
 ghost use Rattle.listing.specs.Rows.{bad_row};
-ghost use Rattle.listing.specs.Listing.{run_text, said_text, listing_text};
+ghost use Rattle.listing.specs.Listing.{run_text, said_text, listing_text, FrontIsEnough};
 
-use crate::pages::{add_call_rows, add_mem_rows};
+use crate::row::Tail;
+use crate::rows::Rows;
 use crate::text::add_bad_row;
 use book::exact::ExactBook;
 use book::record::Book;
 use calls::file::{BookKind, CallsFile, ReadError};
-use calls::reader::read;
+use calls::reader::{self, read};
 use condensed::state::CondensedBook;
-use machine::running::run;
-use machine::state::Machine;
+use machine::running::run_to_vec;
 use memory::store::Memory;
 use memory::word::WordMemory;
 use protocol::call::Call;
 use protocol::fault::Fault;
 use std::alloc::{AllocError, Global};
-
-/// Few rows are longer.
-const USUAL_ROW: usize = 32;
 
 /// The listing of a calls file. Nothing is listed only where memory is wanting.
 pub fn list(heap: Global, bytes: &[u8]) -> Result<String, AllocError>
@@ -31,6 +29,16 @@ pub fn list(heap: Global, bytes: &[u8]) -> Result<String, AllocError>
         Err(ReadError::Damaged(fault)) => list_damage(heap, fault),
         Err(ReadError::NoMemory) => Err(AllocError),
     }
+}
+
+/// So many first bytes of a calls file are listed as all of it is, however long it is: one more than the longest file
+/// has.
+#[tactic(auto, using(crate::proofs::Fronts::front_listed))]
+pub fn enough_bytes() -> usize
+    ensures enough { FrontIsEnough result }
+    ensures one_more { result ≡ longest_file + 1 }
+{
+    reader::enough_bytes()
 }
 
 // The listing of a file whose header is damaged.
@@ -90,20 +98,13 @@ impl Script<'_> {
             (run_of B.Book.kind (M.Memory.at memory) (B.Book.model book) self.now.stamps.now self.now.calls.now)
             self.now.calls.now self.now.fault self.now.lines) }
     {
-        let ran = run(heap, memory, book, self.stamps, self.calls)?;
-        let mut text = String::new(heap);
-        // Where there is no room for all at once, the text grows as it must.
-        let _ = text.reserve(
-            self.calls
-                .len()
-                .saturating_add(self.lines as usize)
-                .saturating_mul(USUAL_ROW),
-        );
-        add_call_rows(&mut text, self.calls, ran.answers.as_slice())?;
+        let (ran, answers) = run_to_vec(heap, memory, book, self.stamps, self.calls)?;
+        let mut rows = Rows::new(heap);
+        rows.add_calls(self.calls, answers.as_slice())?;
         match self.fault {
-            Some(fault) => add_bad_row(&mut text, fault)?,
-            None => add_mem_rows(&mut text, &ran.machine, self.lines)?,
+            Some(fault) => rows.add(&Tail::of_damage(fault))?,
+            None => rows.add_lines(&ran.machine, self.lines)?,
         }
-        Ok(text)
+        Ok(rows.into_text())
     }
 }

@@ -1,9 +1,10 @@
+mod Free
 mod Served
+mod Withdrawn
 mod Turning
 mod Ended
 mod Accessed
 mod Granted
 mod Stamps
-mod Runs
-mod Free
 mod Made
+mod Runs

@@ -1,5 +1,5 @@
 -- Tries, turns and the end of a transaction, by the machine alone: what has come out does not matter.
-use Rattle.std.proofs.Common.{◌≡◌, ℕ, Bool, false, ltb, List, [], ◌∷◌, map, length, Some, None, fold, Option, sym, refl, ap, ◌∙◌, arith}
+use Rattle.std.proofs.Common.{◌≡◌, ℕ, false, ltb, List, [], ◌∷◌, map, length, Some, None, fold, Option, sym, refl, ap, ◌∙◌, arith}
 use Rattle.std.proofs.lemmas.List.{nil_from_length}
 use Rattle.std.proofs.lemmas.Bool.{ltb-false}
 use Rattle.protocol.specs.declared.answer.Cause.{Cause}
@@ -7,10 +7,9 @@ use Rattle.protocol.specs.declared.answer.Outcome.TheVariants.{Gone as LostOut}
 use Rattle.book.specs.Meaning.{Kind}
 use Rattle.book.specs.Time.{Time}
 use Rattle.rules.specs.Access.{Told, Verdict, told, retried, own_line, lost, must_wait, go_on}
-use Rattle.rules.specs.Queue.{product, pending, placed, by_stamp, requests_on}
+use Rattle.rules.specs.Queue.{Policy, product, pending, placed, requests_on}
 use Rattle.rules.specs.State.{Machine, time_of}
-use Rattle.rules.specs.Ending.{Woken, tried, retries, tries, wakes, settles, lets_go, ends, logged_lines}
-use Rattle.rules.specs.State.{warp_row_of}
+use Rattle.rules.specs.Ending.{Woken, tried, retries, tries, wakes, wakes_lines, settles}
 use Rattle.rules.specs.declared.state.Access.{Access}
 use Rattle.rules.specs.declared.state.Request.{Request}
 use Rattle.machine.specs.Moves.{none_yet, try_at, wake_at, comes_through}
@@ -42,38 +41,38 @@ module _ {k : Kind} where
   all_tries line st (w ∷ ws) =
       all_tries line (tries line st w) ws ∙ ap (λ m. fold (try_at line) m ws) (tries_machine line st w)
 
-  wakes_are :
-      (st : Woken k) (line : ℕ)
-      → (wakes (product k) st line).machine ≡ fold (try_at line) st.machine (by_stamp st.machine line)
-  unfolding wakes
-  wakes_are st line = all_tries line st (by_stamp st.machine line)
+  module _ (policy : Policy k) where
+    wakes_are :
+        (st : Woken k) (line : ℕ)
+        → (wakes policy st line).machine ≡ fold (try_at line) st.machine (policy.turns st.machine line)
+    unfolding wakes
+    wakes_are st line = all_tries line st (policy.turns st.machine line)
 
-  pub wake_is : (m : Machine k) (line : ℕ) → wake_at m line ≡ fold (try_at line) m (by_stamp m line)
-  wake_is m line = wakes_are (none_yet m) line
+    pub wake_is : (m : Machine k) (line : ℕ) → wake_at policy m line ≡ fold (try_at line) m (policy.turns m line)
+    wake_is m line = wakes_are (none_yet m) line
 
-  wakes_machine : (st : Woken k) (line : ℕ) → (wakes (product k) st line).machine ≡ wake_at st.machine line
-  wakes_machine st line = wakes_are st line ∙ sym (wakes_are (none_yet st.machine) line)
+    wakes_machine : (st : Woken k) (line : ℕ) → (wakes policy st line).machine ≡ wake_at policy st.machine line
+    wakes_machine st line = wakes_are st line ∙ sym (wakes_are (none_yet st.machine) line)
 
-  all_wakes :
-      (st : Woken k) (lines : List ℕ)
-      → (fold (wakes (product k)) st lines).machine ≡ fold wake_at st.machine lines
-  all_wakes st [] = refl
-  all_wakes st (line ∷ lines) =
-      all_wakes (wakes (product k) st line) lines ∙ ap (λ m. fold wake_at m lines) (wakes_machine st line)
+    all_wakes :
+        (st : Woken k) (lines : List ℕ)
+        → (fold (wakes policy) st lines).machine ≡ fold (wake_at policy) st.machine lines
+    all_wakes st [] = refl
+    all_wakes st (line ∷ lines) =
+        all_wakes (wakes policy st line) lines ∙ ap (λ m. fold (wake_at policy) m lines) (wakes_machine st line)
 
-  pub ends_is :
-      (m : Machine k) (w stamp : ℕ)
-      → (ends (product k) m w stamp).machine ≡ fold wake_at (lets_go m w stamp) (logged_lines (warp_row_of m w).log)
-  unfolding ends
-  ends_is m w stamp = all_wakes (none_yet (lets_go m w stamp)) (logged_lines (warp_row_of m w).log)
+    -- Some lines, one after another.
+    pub wakes_lines_are :
+        (m : Machine k) (lines : List ℕ) → (wakes_lines policy m lines).machine ≡ fold (wake_at policy) m lines
+    wakes_lines_are m lines = all_wakes (none_yet m) lines
 
   -- Where nobody waits there are no turns.
   pub nobody_waits : (m : Machine k) (line : ℕ) → ltb 0 (length (requests_on m.queue line)) ≡ false
-      → m ≡ wake_at m line
+      → m ≡ wake_at (product k) m line
   nobody_waits m line e =
       let none = nil_from_length (requests_on m.queue line) (let z = ltb-false 0 _ e in omega arith) in
       ap (λ rs. fold (try_at line) m (fold (placed m.warp_rows) [] (map (λ (r : Request). r.warp) rs))) (sym none)
-      ∙ sym (wake_is m line)
+      ∙ sym (wake_is (product k) m line)
 
   -- A try, by what is pending and by its verdict.
   module _ (m : Machine k) (w line : ℕ) where
@@ -83,7 +82,7 @@ module _ {k : Kind} where
 
     pub try_by :
         (access : Access) (v : Verdict) → Some access ≡ pending m w line
-        → v ≡ retried access (told k m.book line) (time_of m w) false
+        → v ≡ retried access (told k m.book line) (time_of m w)
         → (tried (none_yet m) w line access v).machine ≡ try_at line m w
     unfolding retries
     try_by access v e is =
@@ -109,10 +108,10 @@ module _ {k : Kind} where
 
     -- The verdict on what the book tells, at the warp's time.
     pub verdict_here :
-        (access : Access) (v : Verdict) (wanted : Access) (facts : Told) (time : Time) (full : Bool)
-        → wanted ≡ access → facts ≡ told k m.book line → time ≡ time_of m w → full ≡ false
-        → v ≡ retried wanted facts time full
-        → v ≡ retried access (told k m.book line) (time_of m w) false
-    verdict_here access v wanted facts time full a f t n e =
-        e ∙ ap (λ x. retried x facts time full) a ∙ ap (retried access facts time) n
-        ∙ ap (λ x. retried access x time false) f ∙ ap (λ x. retried access (told k m.book line) x false) t
+        (access : Access) (v : Verdict) (wanted : Access) (facts : Told) (time : Time)
+        → wanted ≡ access → facts ≡ told k m.book line → time ≡ time_of m w
+        → v ≡ retried wanted facts time
+        → v ≡ retried access (told k m.book line) (time_of m w)
+    verdict_here access v wanted facts time a f t e =
+        e ∙ ap (λ x. retried x facts time) a ∙ ap (λ x. retried access x time) f
+        ∙ ap (retried access (told k m.book line)) t

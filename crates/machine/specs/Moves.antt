@@ -1,36 +1,32 @@
 -- The tries and the end of a transaction, by the machine that they leave.
-use Rattle.std.specs.Prelude.{ℕ, Bool, cond, List, [], ◌∷◌, ◌++◌, length, Some, None, Ok, Err, fold, Option, Result, nat_le, nat_lt}
+use Rattle.std.specs.Prelude.{ℕ, [], ◌∷◌, ◌++◌, length, Some, None, Ok, Err, Option, Result, nat_le, nat_lt}
 use Rattle.std.specs.Option.{unwrap_or, option_or}
-use Rattle.protocol.specs.declared.answer.Answer.{Answer}
-use Rattle.protocol.specs.declared.answer.Answer.TheVariants.{No}
-use Rattle.protocol.specs.declared.answer.Cause.TheVariants.{QueueFull}
+use Rattle.protocol.specs.Limits.{log_limit, last_stamp}
+use Rattle.protocol.specs.declared.answer.Outcome.{Outcome}
 use Rattle.protocol.specs.declared.call.Op.{Op}
 use Rattle.protocol.specs.declared.fault.Fault.{Fault}
+use Rattle.protocol.specs.declared.fault.Refusal.TheVariants.{LogFull, ClockSpent}
+use Rattle.book.specs.Meaning.{Kind, taken}
 use Rattle.rules.specs.declared.state.Access.{Access}
 use Rattle.rules.specs.declared.state.Phase.TheVariants.{Waiting}
 use Rattle.rules.specs.declared.state.Request.{Request}
-use Rattle.book.specs.Meaning.{Kind, released, taken}
-use Rattle.protocol.specs.Limits.{line_room, queue_room, log_limit, last_stamp}
-use Rattle.protocol.specs.declared.fault.Refusal.TheVariants.{LogFull, ClockSpent}
-use Rattle.rules.specs.Lists.{last_stored}
+use Rattle.rules.specs.Logs.{last_stored}
 use Rattle.rules.specs.State.{WarpRow, Machine, with_book, with_warp_row, with_queue, in_phase, time_of, warp_row_of}
-use Rattle.rules.specs.Access.{Verdict, lost, must_wait}
-use Rattle.rules.specs.Queue.{product, is_full}
-use Rattle.rules.specs.Ending.{Woken, settles, tries, wakes}
+use Rattle.rules.specs.Access.{Verdict, if_room, must_wait}
+use Rattle.rules.specs.Queue.{Policy, is_full}
+use Rattle.rules.specs.Ending.{Woken, with_outcome, settles, tries, wakes}
 use Rattle.rules.specs.Steps.{Step, accessed, step}
 use Rattle.rules.specs.Serving.{memory_value, serves}
-use Rattle.rules.specs.Refusals.{unless, faulty}
-use Rattle.rules.specs.Refusals.{phase_refuses, number_fault}
-
--- What becomes of a request that would wait: if the queue is full for its line, its transaction is lost at its own
--- stamp.
-abbrev pub if_room : Bool → ℕ → Verdict
-if_room full stamp = cond full (lost QueueFull stamp) must_wait
+use Rattle.rules.specs.Refusals.{unless, faulty, phase_refuses, number_fault}
 
 module _ {k : Kind} where
   -- Nothing has come out yet.
   abbrev pub none_yet : Machine k → Woken k
   none_yet m = record { machine = m; settled = [] }
+
+  -- A warp has an outcome to fetch.
+  abbrev pub has_outcome : Machine k → ℕ → Outcome → Machine k
+  has_outcome m w outcome = with_warp_row m w (with_outcome (warp_row_of m w) outcome)
 
   -- A request that waited goes on, and comes out.
   abbrev pub comes_through : Machine k → ℕ → ℕ → Access → Machine k
@@ -41,8 +37,8 @@ module _ {k : Kind} where
   abbrev pub try_at : ℕ → Machine k → ℕ → Machine k
   try_at line m w = (tries line (none_yet m) w).machine
 
-  abbrev pub wake_at : Machine k → ℕ → Machine k
-  wake_at m line = (wakes (product k) (none_yet m) line).machine
+  abbrev pub wake_at : Policy k → Machine k → ℕ → Machine k
+  wake_at policy m line = (wakes policy (none_yet m) line).machine
 
   -- The last value that a warp logged for a line, or else the line's.
   abbrev pub own_value : Machine k → ℕ → ℕ → ℕ
@@ -52,22 +48,22 @@ module _ {k : Kind} where
   abbrev pub reserving : Machine k → ℕ → ℕ → Machine k
   reserving m w line = with_book m (taken k m.book line (time_of m w))
 
-  -- Lines released, one after another.
-  abbrev pub releasing : Machine k → List ℕ → Machine k
-  releasing m lines = with_book m (fold (released k) m.book lines)
+  -- What becomes of a request that must wait: without room in the queue its transaction is lost.
+  abbrev pub room_for_wait : Policy k → Machine k → ℕ → ℕ → Verdict
+  room_for_wait policy m w line =
+      if_room (is_full policy.line_room policy.queue_room m.queue line) (warp_row_of m w).stamp must_wait
 
-  -- A request that would wait.
-  abbrev pub in_queue : Machine k → ℕ → ℕ → Access → Step k
-  in_queue m w line access =
-      accessed (product k) m w line access (if_room (is_full line_room queue_room m.queue line) (warp_row_of m w).stamp)
+  -- What that leaves and answers.
+  abbrev pub in_queue : Policy k → Machine k → ℕ → ℕ → Access → Step k
+  in_queue policy m w line access = accessed policy m w line access (room_for_wait policy m w line)
 
   -- A request joins the queue, behind all others; its warp waits.
   abbrev pub joining : Machine k → Request → Machine k
   joining m r = with_queue (with_warp_row m r.warp (in_phase (warp_row_of m r.warp) Waiting)) (m.queue ++ r ∷ [])
 
-  -- A step of the product's machine.
-  abbrev pub next : Machine k → ℕ → Op → Step k
-  next m w op = step (product k) m (record { warp = w; op = op })
+  -- The step of one of the six calls.
+  abbrev pub next : Policy k → Machine k → ℕ → Op → Step k
+  next policy m w op = step policy m (record { warp = w; op = op })
 
 -- A full log, and a clock that is spent.
 abbrev pub room_fault : WarpRow → Option Fault
@@ -84,8 +80,3 @@ asked_fault m w op = option_or (faulty (phase_refuses (warp_row_of m w).phase op
 abbrev pub passed : Option Fault → Result (Unit {0}) Fault
 passed None = Ok tt
 passed (Some fault) = Err fault
-
--- What is answered: a refusal as such.
-abbrev pub told_by : Result Answer Fault → Answer
-told_by (Ok answer) = answer
-told_by (Err fault) = No fault

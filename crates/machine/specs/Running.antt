@@ -1,31 +1,43 @@
 -- The run of a new machine, and what is promised of it.
-use Rattle.std.specs.Prelude.{◌≡◌, ℕ, List, map}
+use Rattle.std.specs.Prelude.{ℕ, List, ◌++◌, drop, length, map, take, Result}
 use Rattle.protocol.specs.declared.answer.Answer.{Answer}
 use Rattle.protocol.specs.declared.call.Call.{Call}
+use Rattle.protocol.specs.declared.fault.Fault.{Fault}
 use Rattle.memory.specs.Lines.{Lines}
 use Rattle.book.specs.Meaning.{Kind}
 use Rattle.rules.specs.Ledger.{ledger_of}
-use Rattle.rules.specs.Laws.{AccountsAgree, WaitsEnd}
+use Rattle.rules.specs.Laws.{AccountsAgree, Explained, FetchesTell, TablesAgree, WaitsEnd}
 use Rattle.rules.specs.Queue.{product}
-use Rattle.rules.specs.State.{Machine}
 use Rattle.rules.specs.Runs.{Event, Run, run}
 use Rattle.rules.specs.Making.{make}
 
 abbrev pub run_of : (k : Kind) → Lines → k.State → List ℕ → List Call → Run k
 run_of k lines book stamps calls = run (product k) (make k lines book stamps) calls
 
+-- The calls that are made: as many as there are places for answers.
+abbrev pub calls_made : List Call → List (Result Answer Fault) → List Call
+calls_made calls places = take (length places) calls
+
 -- What a run answers, call by call.
-abbrev pub answers_in : List Event → List Answer
+abbrev pub answers_in : List Event → List (Result Answer Fault)
 answers_in events = map (λ (e : Event). e.answer) events
 
--- A machine and answers are those of a run.
-pub record Follows {k : Kind} (machine : Machine k) (answers : List Answer) (r : Run k) : Type 0 where
-  pub same_machine : machine ≡ r.machine
-  pub same_answers : answers ≡ answers_in r.events
+-- The answers stand in the first places; the rest keep what they had.
+abbrev pub answered : List Event → List (Result Answer Fault) → List (Result Answer Fault)
+answered events places = answers_in events ++ drop (length events) places
 
--- The two laws, of the run.
+-- The laws, of the run.
 abbrev pub AccountsOf : {k : Kind} → Lines → Run k → Type 0
 AccountsOf lines r = AccountsAgree lines (ledger_of r.events) r.machine.lines
 
+abbrev pub ExplainedOf : {k : Kind} → Lines → Run k → Type 0
+ExplainedOf lines r = Explained lines (ledger_of r.events) r.machine.lines
+
 abbrev pub WaitsOf : {k : Kind} → Run k → Type 0
 WaitsOf r = WaitsEnd r.machine (ledger_of r.events)
+
+abbrev pub TablesOf : {k : Kind} → Run k → Type 0
+TablesOf r = TablesAgree r.machine (ledger_of r.events)
+
+abbrev pub FetchesOf : {k : Kind} → Run k → Type 0
+FetchesOf r = FetchesTell r.events

@@ -1,51 +1,58 @@
 //! Loads and stores, by what they meet.
-ghost use Rattle.std.specs.Prelude.{◌≡◌, ◌<◌, true, false, length};
+ghost use Rattle.std.specs.Prelude.{◌≡◌, ◌<◌, ◌≤◌, true, false, Ok};
 ghost use Rattle.protocol.specs.Limits.{line_limit};
 ghost use Rattle.protocol.specs.declared.answer.Answer.TheVariants.{Gone};
-ghost use Rattle.rules.specs.Queue.{product};
 ghost use Rattle.rules.specs.Access.{told};
-ghost use Rattle.rules.specs.State.{is_waiting, time_of};
 ghost use Rattle.rules.specs.Ending.{ends};
-ghost use Rattle.rules.specs.Steps.{accesses, fetched, fetches};
-ghost use Rattle.tables.specs.Pages.{warp_rows, warp_row, has_room};
-ghost use Rattle.machine.specs.Meaning.{state};
-ghost use Rattle.machine.specs.Moves.{in_queue, joining};
-ghost use Rattle.machine.specs.Verdicts.{told_as};
+ghost use Rattle.rules.specs.State.{is_waiting, time_of};
+ghost use Rattle.rules.specs.Steps.{accesses, fetched, fetches, verdict_at};
+ghost use Rattle.rules.specs.declared.state.Phase.TheVariants.{Settled};
+ghost use Rattle.tables.specs.Phases.{highest_stamp, next_stamp, is_open};
+ghost use Rattle.tables.specs.Pages.{warp_row, has_room};
+ghost use Rattle.machine.specs.Meaning.{state, policy_of};
+ghost use Rattle.machine.specs.Moves.{in_queue, joining, room_for_wait};
+ghost use Rattle.machine.specs.Verdicts.{told_as, verdict_as};
 
 use crate::state::Machine;
 use crate::verdict::{Encounter, Verdict};
 use book::record::Book;
 use memory::store::Memory;
 use protocol::answer::{Answer, Cause, Outcome};
+use protocol::limits::{LINE_ROOM, QUEUE_ROOM};
 use rules::state::{Phase, Request};
+use tables::queue::QueueLimits;
+
+/// How many requests a line may have, and how many lines may have some.
+const QUEUE_LIMITS: QueueLimits = QueueLimits {
+    requests_per_line: LINE_ROOM,
+    lines: QUEUE_ROOM,
+};
 
 impl<M: Memory, B: Book> Machine<M, B> {
-    /// What a load or a store meets. Whether the queue is full is asked only of one that would have to wait.
-    #[inline(always)]
+    /// What a load or a store meets.
     pub(crate) fn meet(&self, request: Request) -> Encounter
         ensures access { result.access ≡ request.access }
         ensures told { told_as result.told
             ≡ told B.Book.kind (B.Book.model self.now.book) request.line }
         ensures time { result.time
             ≡ time_of (state M.Memory.at B.Book.kind B.Book.model self.now) request.warp }
-        ensures full { result.full ≡ false }
     {
         Encounter {
             access: request.access,
             told: self.told(request.line),
             time: self.time(request.warp),
-            full: false,
         }
     }
 
     /// The transaction is gone: it ends, and its warp goes on at the next stamp.
-    #[inline(always)]
     fn lose(&mut self, warp: u32, cause: Cause, next: u64) -> Answer
-        requires { is_waiting (warp_row self.old.tables warp).phase ≡ false }
+        requires free { is_waiting (warp_row self.old.tables warp).phase ≡ false }
+        requires bound { next ≤ highest_stamp }
         ensures after { state M.Memory.at B.Book.kind B.Book.model self.new
-            ≡ (ends (product B.Book.kind) (state M.Memory.at B.Book.kind B.Book.model self.old)
-            warp next).machine }
+            ≡ (ends (policy_of B.Book.kind self.old)
+            (state M.Memory.at B.Book.kind B.Book.model self.old) warp next).machine }
         ensures answer { result ≡ Gone cause next }
+        ensures memory { self.new.memory ≡ self.old.memory }
     {
         self.end(warp, next);
         Answer::Gone { cause, next }
@@ -53,29 +60,38 @@ impl<M: Memory, B: Book> Machine<M, B> {
 
     /// A request joins the queue, and notes nothing yet.
     fn join_queue(&mut self, request: Request)
-        requires known { request.warp < length (warp_rows self.old.tables) }
-        requires free { is_waiting (warp_row self.old.tables request.warp).phase ≡ false }
+        requires open { is_open (warp_row self.old.tables request.warp).phase ≡ true }
         requires room { has_room (warp_row self.old.tables request.warp) request.access ≡ true }
-        ensures { state M.Memory.at B.Book.kind B.Book.model self.new
+        ensures after { state M.Memory.at B.Book.kind B.Book.model self.new
             ≡ joining (state M.Memory.at B.Book.kind B.Book.model self.old) request }
+        ensures memory { self.new.memory ≡ self.old.memory }
     {
         self.tables.wait(request);
     }
 
-    /// A load or a store that would wait: if the queue is full for the line, its transaction ends at its own stamp.
-    #[inline(always)]
+    /// How many requests may wait.
+    fn queue_limits(&self) -> QueueLimits
+        ensures line { result.requests_per_line ≡ (policy_of B.Book.kind self.now).line_room }
+        ensures queue { result.lines ≡ (policy_of B.Book.kind self.now).queue_room }
+    {
+        QUEUE_LIMITS
+    }
+
+    /// A load or a store that must wait: if the queue is full for the line, its transaction ends at its own stamp.
     fn wait_or_lose(&mut self, request: Request) -> Answer
-        requires known { request.warp < length (warp_rows self.old.tables) }
-        requires free { is_waiting (warp_row self.old.tables request.warp).phase ≡ false }
+        requires open { is_open (warp_row self.old.tables request.warp).phase ≡ true }
         requires room { has_room (warp_row self.old.tables request.warp) request.access ≡ true }
         ensures after { state M.Memory.at B.Book.kind B.Book.model self.new
-            ≡ (in_queue (state M.Memory.at B.Book.kind B.Book.model self.old) request.warp
-            request.line request.access).machine }
-        ensures answer { result
-            ≡ (in_queue (state M.Memory.at B.Book.kind B.Book.model self.old) request.warp
-            request.line request.access).answer }
+            ≡ (in_queue (policy_of B.Book.kind self.old)
+            (state M.Memory.at B.Book.kind B.Book.model self.old) request.warp request.line
+            request.access).machine }
+        ensures answer { Ok result
+            ≡ (in_queue (policy_of B.Book.kind self.old)
+            (state M.Memory.at B.Book.kind B.Book.model self.old) request.warp request.line
+            request.access).answer }
+        ensures memory { self.new.memory ≡ self.old.memory }
     {
-        if self.tables.is_full(request.line) {
+        if self.tables.is_full(request.line, self.queue_limits()) {
             let stamp = self.tables.stamp(request.warp);
             return self.lose(request.warp, Cause::QueueFull, stamp);
         }
@@ -83,23 +99,52 @@ impl<M: Memory, B: Book> Machine<M, B> {
         Answer::Wait
     }
 
-    // That the warp is known, does not wait and has room in its log are facts of the tables and the request together,
-    // which a type of neither could hold; so each step asks for them.
+    /// What the access steps say of a load or a store now. Only a request that must wait asks the queue for room.
+    pub fn verdict(&self, request: Request) -> Verdict
+        ensures { verdict_as result
+            ≡ verdict_at (policy_of B.Book.kind self.now)
+            (state M.Memory.at B.Book.kind B.Book.model self.now) request.warp request.line
+            request.access }
+    {
+        match self.meet(request).decide() {
+            Verdict::OwnLine => Verdict::OwnLine,
+            Verdict::Lost { cause, next } => Verdict::Lost { cause, next },
+            Verdict::MustWait => self.wait_verdict(request),
+            Verdict::GoOn => Verdict::GoOn,
+        }
+    }
+
+    // The same of a request that must wait.
+    fn wait_verdict(&self, request: Request) -> Verdict
+        ensures { verdict_as result
+            ≡ room_for_wait (policy_of B.Book.kind self.now)
+            (state M.Memory.at B.Book.kind B.Book.model self.now) request.warp request.line }
+    {
+        if !self.tables.is_full(request.line, self.queue_limits()) {
+            return Verdict::MustWait;
+        }
+        Verdict::Lost {
+            cause: Cause::QueueFull,
+            next: self.tables.stamp(request.warp),
+        }
+    }
+
+    // That the warp is open and has room in its log are facts of the tables and the request together, which a type of
+    // neither could hold; so each step asks for them.
     /// A load or a store of a warp that may go on.
-    #[inline(always)]
     pub(crate) fn access(&mut self, request: Request) -> Answer
         requires inside { request.line < line_limit }
-        requires known { request.warp < length (warp_rows self.old.tables) }
-        requires free { is_waiting (warp_row self.old.tables request.warp).phase ≡ false }
+        requires open { is_open (warp_row self.old.tables request.warp).phase ≡ true }
         requires room { has_room (warp_row self.old.tables request.warp) request.access ≡ true }
         ensures after { state M.Memory.at B.Book.kind B.Book.model self.new
-            ≡ (accesses (product B.Book.kind)
+            ≡ (accesses (policy_of B.Book.kind self.old)
             (state M.Memory.at B.Book.kind B.Book.model self.old) request.warp request.line
             request.access).machine }
-        ensures answer { result
-            ≡ (accesses (product B.Book.kind)
+        ensures answer { Ok result
+            ≡ (accesses (policy_of B.Book.kind self.old)
             (state M.Memory.at B.Book.kind B.Book.model self.old) request.warp request.line
             request.access).answer }
+        ensures memory { self.new.memory ≡ self.old.memory }
     {
         match self.meet(request).decide() {
             Verdict::OwnLine => self.serve_own(request).into(),
@@ -111,35 +156,40 @@ impl<M: Memory, B: Book> Machine<M, B> {
 
     /// Hands over a settled outcome: after a value or a store the warp goes on; gone, its transaction ends.
     fn hand_over(&mut self, warp: u32, outcome: Outcome) -> Answer
-        requires { is_waiting (warp_row self.old.tables warp).phase ≡ false }
+        requires settled { (warp_row self.old.tables warp).phase ≡ Settled outcome }
+        requires bound { next_stamp outcome ≤ highest_stamp }
         ensures after { state M.Memory.at B.Book.kind B.Book.model self.new
-            ≡ (fetched (product B.Book.kind)
+            ≡ (fetched (policy_of B.Book.kind self.old)
             (state M.Memory.at B.Book.kind B.Book.model self.old) warp outcome).machine }
-        ensures answer { result
-            ≡ (fetched (product B.Book.kind)
+        ensures answer { Ok result
+            ≡ (fetched (policy_of B.Book.kind self.old)
             (state M.Memory.at B.Book.kind B.Book.model self.old) warp outcome).answer }
+        ensures memory { self.new.memory ≡ self.old.memory }
     {
-        if let Outcome::Gone { cause, next } = outcome {
-            return self.lose(warp, cause, next);
+        match outcome {
+            Outcome::Value { .. } | Outcome::Stored => {
+                self.tables.resume(warp);
+                outcome.into()
+            }
+            Outcome::Gone { cause, next } => self.lose(warp, cause, next),
         }
-        self.tables.resume(warp);
-        outcome.into()
     }
 
     /// The outcome of a load or a store that had to wait, once it is there.
     pub(crate) fn hand_out(&mut self, warp: u32) -> Answer
         ensures after { state M.Memory.at B.Book.kind B.Book.model self.new
-            ≡ (fetches (product B.Book.kind)
+            ≡ (fetches (policy_of B.Book.kind self.old)
             (state M.Memory.at B.Book.kind B.Book.model self.old) warp
             (warp_row self.old.tables warp).phase).machine }
-        ensures answer { result
-            ≡ (fetches (product B.Book.kind)
+        ensures answer { Ok result
+            ≡ (fetches (policy_of B.Book.kind self.old)
             (state M.Memory.at B.Book.kind B.Book.model self.old) warp
             (warp_row self.old.tables warp).phase).answer }
+        ensures memory { self.new.memory ≡ self.old.memory }
     {
         match self.tables.phase(warp) {
             Phase::Settled { outcome } => self.hand_over(warp, outcome),
-            _ => Answer::Wait,
+            Phase::Idle | Phase::Open | Phase::Waiting => Answer::Wait,
         }
     }
 }

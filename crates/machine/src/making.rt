@@ -3,7 +3,8 @@ ghost use Rattle.std.specs.Prelude.{◌≡◌, nat_lt};
 ghost use Rattle.std.specs.List.{find};
 ghost use Rattle.protocol.specs.Limits.{last_stamp};
 ghost use Rattle.rules.specs.Making.{make as new_machine, making_fault};
-ghost use Rattle.machine.specs.Meaning.{state};
+ghost use Rattle.rules.specs.Queue.{product};
+ghost use Rattle.machine.specs.Meaning.{state, policy_of, loan};
 ghost use Rattle.machine.specs.Moves.{passed};
 ghost use Rattle.machine.specs.Making.{count_fault, stamp_fault};
 
@@ -60,8 +61,11 @@ impl<M: Memory, B: Book> Machine<M, B> {
     pub fn make(memory: M, book: B, stamps: &[u32]) -> (Machine<M, B>, Result<(), Fault>)
         ensures machine { state M.Memory.at B.Book.kind B.Book.model result.0
             ≡ new_machine B.Book.kind (M.Memory.at memory) (B.Book.model book) stamps.now }
+        ensures policy { policy_of B.Book.kind result.0 ≡ product B.Book.kind }
         ensures fault { result.1
             ≡ passed (making_fault B.Book.kind (B.Book.model book) stamps.now) }
+        ensures loan { loan M.Memory.lent M.Memory.spare result.0
+            ≡ (M.Memory.lent memory, M.Memory.spare memory) }
     {
         let shape = check_shape(&book, stamps);
         let warps = if shape.is_ok() { stamps } else { &[] };

@@ -1,7 +1,7 @@
 //! Refusals, in the order of their numbers: the first is told.
 ghost use Rattle.std.specs.Prelude.{◌≡◌, length, nat_lt};
-ghost use Rattle.protocol.specs.declared.fault.Refusal.TheVariants.{NoSuchWarp, NoSuchLine, LogFull, ClockSpent};
-ghost use Rattle.rules.specs.Refusals.{phase_refuses};
+ghost use Rattle.protocol.specs.declared.fault.Refusal.TheVariants.{NoSuchWarp, NoSuchLine};
+ghost use Rattle.rules.specs.Refusals.{idle_refuses, open_refuses, pending_refuses, phase_refuses};
 ghost use Rattle.rules.specs.Refusals.{faulty, unless, has_line, number_fault, fault_of};
 ghost use Rattle.tables.specs.Pages.{warp_rows, warp_row};
 ghost use Rattle.machine.specs.Meaning.{state};
@@ -15,17 +15,48 @@ use protocol::fault::{Fault, Refusal};
 use protocol::limits::{LAST_STAMP, LINES, STORES};
 use rules::state::Phase;
 
+/// What a warp without a transaction may not ask for.
+fn idle_refuses(op: Op) -> Option<Refusal>
+    ensures { result ≡ idle_refuses op }
+{
+    match op {
+        Op::Begin => None,
+        Op::Load { .. } | Op::Store { .. } | Op::Commit | Op::Drop | Op::Fetch => {
+            Some(Refusal::WarpIdle)
+        }
+    }
+}
+
+/// What a warp may not ask for while it may go on.
+fn open_refuses(op: Op) -> Option<Refusal>
+    ensures { result ≡ open_refuses op }
+{
+    match op {
+        Op::Begin => Some(Refusal::WarpNotIdle),
+        Op::Load { .. } | Op::Store { .. } | Op::Commit | Op::Drop => None,
+        Op::Fetch => Some(Refusal::NothingToFetch),
+    }
+}
+
+/// What a warp may not ask for while the outcome of a load or a store that had to wait is not fetched.
+fn pending_refuses(op: Op) -> Option<Refusal>
+    ensures { result ≡ pending_refuses op }
+{
+    match op {
+        Op::Begin => Some(Refusal::WarpNotIdle),
+        Op::Load { .. } | Op::Store { .. } | Op::Commit | Op::Drop => Some(Refusal::OutcomePending),
+        Op::Fetch => None,
+    }
+}
+
 /// What a warp may not ask for in a phase.
 fn phase_refuses(phase: Phase, op: Op) -> Option<Refusal>
     ensures { result ≡ phase_refuses phase op }
 {
-    match (phase, op) {
-        (Phase::Idle, Op::Begin) => None,
-        (Phase::Idle, _) => Some(Refusal::WarpIdle),
-        (_, Op::Begin) => Some(Refusal::WarpNotIdle),
-        (Phase::Open, Op::Fetch) => Some(Refusal::NothingToFetch),
-        (Phase::Open, _) | (_, Op::Fetch) => None,
-        _ => Some(Refusal::OutcomePending),
+    match phase {
+        Phase::Idle => idle_refuses(op),
+        Phase::Open => open_refuses(op),
+        Phase::Waiting | Phase::Settled { .. } => pending_refuses(op),
     }
 }
 

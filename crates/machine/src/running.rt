@@ -1,11 +1,11 @@
-//! Runs: a machine is made and turns a list of calls.
-ghost use Rattle.std.specs.Prelude.{◌≡◌, IfOk};
+//! Runs: a machine is made and makes a list of calls.
+ghost use Rattle.std.specs.Prelude.{◌≡◌, ◌≤◌, length, None, IfOk};
 ghost use Rattle.rules.specs.Making.{making_fault};
-ghost use Rattle.rules.specs.Queue.{product};
-ghost use Rattle.rules.specs.Runs.{run};
-ghost use Rattle.machine.specs.Meaning.{state};
+ghost use Rattle.rules.specs.Runs.{run as run_from};
+ghost use Rattle.machine.specs.Meaning.{state, policy_of, loan};
 ghost use Rattle.machine.specs.Moves.{passed};
-ghost use Rattle.machine.specs.Running.{run_of, Follows, AccountsOf, WaitsOf};
+ghost use Rattle.machine.specs.Running.{run_of, calls_made, answers_in, answered};
+ghost use Rattle.machine.specs.Running.{AccountsOf, ExplainedOf, WaitsOf, TablesOf, FetchesOf};
 
 use crate::state::Machine;
 use book::record::Book;
@@ -15,57 +15,112 @@ use protocol::call::Call;
 use protocol::fault::Fault;
 use std::alloc::{AllocError, Global};
 
-/// What a run leaves: the machine, what was wrong with its shape, and the answers, one for each call.
+/// What a run leaves: the machine, and what was wrong with its shape.
 #[derive(Drop)]
 pub struct Ran<M, B> {
     pub machine: Machine<M, B>,
     pub shape: Result<(), Fault>,
-    pub answers: Vec<Answer>,
 }
 
 impl<M: Memory, B: Book> Machine<M, B> {
-    /// Turns a list of calls, and answers each.
-    #[inline(never)]
-    fn turn(&mut self, heap: Global, calls: &[Call]) -> Result<Vec<Answer>, AllocError>
-        ensures { IfOk result
-            (λ answers. Follows (state M.Memory.at B.Book.kind B.Book.model self.new) answers.items
-            (run (product B.Book.kind) (state M.Memory.at B.Book.kind B.Book.model self.old)
-            calls.now)) }
+    /// Makes a list of calls, and puts each answer in its place.
+    fn make_calls(&mut self, calls: &[Call], answers: &mut [Result<Answer, Fault>])
+        requires { length calls.now ≤ length answers.old }
+        ensures after { state M.Memory.at B.Book.kind B.Book.model self.new
+            ≡ (run_from (policy_of B.Book.kind self.old)
+            (state M.Memory.at B.Book.kind B.Book.model self.old) calls.now).machine }
+        ensures answers { answers.new
+            ≡ answered (run_from (policy_of B.Book.kind self.old)
+            (state M.Memory.at B.Book.kind B.Book.model self.old) calls.now).events answers.old }
+        ensures loan { loan M.Memory.lent M.Memory.spare self.new
+            ≡ loan M.Memory.lent M.Memory.spare self.old }
     {
-        let mut answers = Vec::with_capacity(heap, calls.len())?;
-        for call in calls {
-            answers.push_reserved(self.call(*call));
+        for (place, call) in calls.iter().enumerate() {
+            answers[place] = self.call(*call);
         }
-        Ok(answers)
     }
 }
 
-/// Makes a machine and turns a list of calls. Answers and machine are those of the rules. Whatever the memory and the
-/// book, the account of the run is that of its committed transactions run alone, exactly in the orders that keep
-/// logical time among those that clash; and from every waiting warp, stamps fall from holder to holder until one does
-/// not wait.
-pub fn run<M: Memory + Drop, B: Book + Drop>(
+/// Makes a machine and makes calls, as many as there are places for answers. It needs no memory of its own. Machine and
+/// answers are those of the rules, and the places behind the answers stay as they were. Whatever the memory and the
+/// book: the account of the run is that of its committed transactions run alone, exactly in the orders that keep logical
+/// time among those that clash, and there is such an order; from every waiting warp, stamps fall from holder to holder
+/// until one does not wait; the tables tell the account; a fetch tells what joined the account when it came out; and
+/// what the memory borrows stays borrowed, with all that is in no line as it was.
+pub fn run<M: Memory, B: Book>(
+    memory: M,
+    book: B,
+    stamps: &[u32],
+    calls: &[Call],
+    answers: &mut [Result<Answer, Fault>],
+) -> Ran<M, B>
+    ensures machine { state M.Memory.at B.Book.kind B.Book.model result.machine
+        ≡ (run_of B.Book.kind (M.Memory.at memory) (B.Book.model book) stamps.now
+        (calls_made calls.now answers.old)).machine }
+    ensures answers { answers.new
+        ≡ answered (run_of B.Book.kind (M.Memory.at memory) (B.Book.model book) stamps.now
+        (calls_made calls.now answers.old)).events answers.old }
+    ensures shape { result.shape
+        ≡ passed (making_fault B.Book.kind (B.Book.model book) stamps.now) }
+    ensures accounts { AccountsOf (M.Memory.at memory)
+        (run_of B.Book.kind (M.Memory.at memory) (B.Book.model book) stamps.now
+        (calls_made calls.now answers.old)) }
+    ensures explained { ExplainedOf (M.Memory.at memory)
+        (run_of B.Book.kind (M.Memory.at memory) (B.Book.model book) stamps.now
+        (calls_made calls.now answers.old)) }
+    ensures waits { WaitsOf
+        (run_of B.Book.kind (M.Memory.at memory) (B.Book.model book) stamps.now
+        (calls_made calls.now answers.old)) }
+    ensures tables { making_fault B.Book.kind (B.Book.model book) stamps.now ≡ None → TablesOf
+        (run_of B.Book.kind (M.Memory.at memory) (B.Book.model book) stamps.now
+        (calls_made calls.now answers.old)) }
+    ensures fetches { FetchesOf
+        (run_of B.Book.kind (M.Memory.at memory) (B.Book.model book) stamps.now
+        (calls_made calls.now answers.old)) }
+    ensures loan { loan M.Memory.lent M.Memory.spare result.machine
+        ≡ (M.Memory.lent memory, M.Memory.spare memory) }
+{
+    let (mut machine, shape) = Machine::make(memory, book, stamps);
+    let count = calls.len().min(answers.len());
+    machine.make_calls(&calls[..count], answers);
+    Ran { machine, shape }
+}
+
+/// The same of all calls, with the answers in a vector.
+pub fn run_to_vec<M: Memory + Drop, B: Book + Drop>(
     heap: Global,
     memory: M,
     book: B,
     stamps: &[u32],
     calls: &[Call],
-) -> Result<Ran<M, B>, AllocError>
-    ensures rules { IfOk result
-        (λ ran. Follows (state M.Memory.at B.Book.kind B.Book.model ran.machine) ran.answers.items
-        (run_of B.Book.kind (M.Memory.at memory) (B.Book.model book) stamps.now calls.now)) }
-    ensures shape { IfOk result (λ ran. ran.shape
+) -> Result<(Ran<M, B>, Vec<Result<Answer, Fault>>), AllocError>
+    ensures machine { IfOk result (λ ran. state M.Memory.at B.Book.kind B.Book.model ran.0.machine
+        ≡ (run_of B.Book.kind (M.Memory.at memory) (B.Book.model book) stamps.now
+        calls.now).machine) }
+    ensures answers { IfOk result (λ ran. ran.1.items
+        ≡ answers_in (run_of B.Book.kind (M.Memory.at memory) (B.Book.model book) stamps.now
+        calls.now).events) }
+    ensures shape { IfOk result (λ ran. ran.0.shape
         ≡ passed (making_fault B.Book.kind (B.Book.model book) stamps.now)) }
     ensures accounts { AccountsOf (M.Memory.at memory)
-        (run_of B.Book.kind (M.Memory.at memory) (B.Book.model book) stamps.now calls.now) }
+        (run_of B.Book.kind (M.Memory.at memory) (B.Book.model book) stamps.now
+        calls.now) }
+    ensures explained { ExplainedOf (M.Memory.at memory)
+        (run_of B.Book.kind (M.Memory.at memory) (B.Book.model book) stamps.now
+        calls.now) }
     ensures waits { WaitsOf
-        (run_of B.Book.kind (M.Memory.at memory) (B.Book.model book) stamps.now calls.now) }
+        (run_of B.Book.kind (M.Memory.at memory) (B.Book.model book) stamps.now
+        calls.now) }
+    ensures tables { making_fault B.Book.kind (B.Book.model book) stamps.now ≡ None → TablesOf
+        (run_of B.Book.kind (M.Memory.at memory) (B.Book.model book) stamps.now
+        calls.now) }
+    ensures fetches { FetchesOf
+        (run_of B.Book.kind (M.Memory.at memory) (B.Book.model book) stamps.now
+        calls.now) }
+    ensures loan { IfOk result (λ ran. loan M.Memory.lent M.Memory.spare ran.0.machine
+        ≡ (M.Memory.lent memory, M.Memory.spare memory)) }
 {
-    let (mut machine, shape) = Machine::make(memory, book, stamps);
-    let answers = machine.turn(heap, calls)?;
-    Ok(Ran {
-        machine,
-        shape,
-        answers,
-    })
+    let mut answers = vec![in heap; Ok(Answer::Wait); calls.len()]?;
+    let ran = run(memory, book, stamps, calls, answers.as_mut_slice());
+    Ok((ran, answers))
 }

@@ -1,12 +1,13 @@
 //! Loads and stores that go on, and the tries of those that waited.
-ghost use Rattle.std.specs.Prelude.{◌≡◌, ◌<◌, true, false, length};
+ghost use Rattle.std.specs.Prelude.{◌≡◌, ◌<◌, ◌≤◌, true};
 ghost use Rattle.protocol.specs.Limits.{line_limit};
 ghost use Rattle.rules.specs.State.{is_waiting};
-ghost use Rattle.rules.specs.Ending.{settles};
+ghost use Rattle.rules.specs.Ending.{settles, withdraws};
 ghost use Rattle.rules.specs.Serving.{serves, serves_own};
+ghost use Rattle.tables.specs.Phases.{highest_stamp, next_stamp, is_open};
 ghost use Rattle.tables.specs.Pages.{warp_row, has_room};
-ghost use Rattle.machine.specs.Meaning.{state};
-ghost use Rattle.machine.specs.Moves.{try_at, wake_at, comes_through};
+ghost use Rattle.machine.specs.Meaning.{state, policy_of};
+ghost use Rattle.machine.specs.Moves.{try_at, wake_at, comes_through, has_outcome};
 
 use crate::state::Machine;
 use crate::verdict::Verdict;
@@ -20,10 +21,9 @@ impl<M: Memory, B: Book> Machine<M, B> {
     // A line is a plain number in every rule: a type for those below the limit would put its field's name into each
     // clause, in place of one condition.
     /// On a line that is nobody's: a load gives the memory's value, a store reserves the line.
-    #[inline(always)]
     pub(crate) fn serve(&mut self, request: Request) -> Outcome
         requires inside { request.line < line_limit }
-        requires free { is_waiting (warp_row self.old.tables request.warp).phase ≡ false }
+        requires open { is_open (warp_row self.old.tables request.warp).phase ≡ true }
         requires room { has_room (warp_row self.old.tables request.warp) request.access ≡ true }
         ensures after { state M.Memory.at B.Book.kind B.Book.model self.new
             ≡ (serves (state M.Memory.at B.Book.kind B.Book.model self.old) request.warp
@@ -31,6 +31,7 @@ impl<M: Memory, B: Book> Machine<M, B> {
         ensures answer { result
             ≡ (serves (state M.Memory.at B.Book.kind B.Book.model self.old) request.warp
             request.line request.access).outcome }
+        ensures memory { self.new.memory ≡ self.old.memory }
     {
         let Request { warp, line, access } = request;
         match access {
@@ -50,10 +51,9 @@ impl<M: Memory, B: Book> Machine<M, B> {
     // Of the shape of `serve`, but of another value and another call of the book: passed as closures, both would need
     // contracts of their own, and the match would still be there.
     /// On the warp's own line: a load gives the last value that it logged there, a store is added to the count.
-    #[inline(always)]
     pub(crate) fn serve_own(&mut self, request: Request) -> Outcome
         requires inside { request.line < line_limit }
-        requires free { is_waiting (warp_row self.old.tables request.warp).phase ≡ false }
+        requires open { is_open (warp_row self.old.tables request.warp).phase ≡ true }
         requires room { has_room (warp_row self.old.tables request.warp) request.access ≡ true }
         ensures after { state M.Memory.at B.Book.kind B.Book.model self.new
             ≡ (serves_own (state M.Memory.at B.Book.kind B.Book.model self.old) request.warp
@@ -61,6 +61,7 @@ impl<M: Memory, B: Book> Machine<M, B> {
         ensures answer { result
             ≡ (serves_own (state M.Memory.at B.Book.kind B.Book.model self.old) request.warp
             request.line request.access).outcome }
+        ensures memory { self.new.memory ≡ self.old.memory }
     {
         let Request { warp, line, access } = request;
         match access {
@@ -77,44 +78,60 @@ impl<M: Memory, B: Book> Machine<M, B> {
         }
     }
 
-    // Not `serve` with a step after it: the tables keep room for a store that waits, so it leaves the queue before it
-    // is logged.
-    /// The same for a request that waited: its warp has the outcome to fetch.
-    fn serve_waiting(&mut self, request: Request)
-        requires inside { request.line < line_limit }
-        requires room { has_room (warp_row self.old.tables request.warp) request.access ≡ true }
-        ensures { state M.Memory.at B.Book.kind B.Book.model self.new
-            ≡ comes_through (state M.Memory.at B.Book.kind B.Book.model self.old) request.warp
-            request.line request.access }
+    /// A request leaves the queue, and its warp is open again.
+    fn withdraw(&mut self, warp: u32)
+        requires { is_waiting (warp_row self.old.tables warp).phase ≡ true }
+        ensures after { state M.Memory.at B.Book.kind B.Book.model self.new
+            ≡ withdraws (state M.Memory.at B.Book.kind B.Book.model self.old) warp }
+        ensures memory { self.new.memory ≡ self.old.memory }
     {
-        let Request { warp, line, access } = request;
-        match access {
-            Access::Read => {
-                let value = self.memory_value(line);
-                self.note(warp, line);
-                self.tables.settle(warp, Outcome::Value { value });
-            }
-            Access::Write { value } => {
-                self.reserve(warp, line);
-                self.tables.settle(warp, Outcome::Stored);
-                self.tables.log_store(warp, Store { line, value });
-            }
-        }
+        self.tables.withdraw(warp);
     }
 
-    /// A request comes out: it leaves the queue, and its warp has the outcome to fetch, at the stamp that it had.
-    fn come_out(&mut self, warp: u32, outcome: Outcome)
-        ensures { state M.Memory.at B.Book.kind B.Book.model self.new
-            ≡ settles (state M.Memory.at B.Book.kind B.Book.model self.old) warp outcome }
+    /// An open warp has an outcome to fetch.
+    fn settle(&mut self, warp: u32, outcome: Outcome)
+        requires open { is_open (warp_row self.old.tables warp).phase ≡ true }
+        requires bound { next_stamp outcome ≤ highest_stamp }
+        ensures after { state M.Memory.at B.Book.kind B.Book.model self.new
+            ≡ has_outcome (state M.Memory.at B.Book.kind B.Book.model self.old) warp outcome }
+        ensures memory { self.new.memory ≡ self.old.memory }
     {
         self.tables.settle(warp, outcome);
+    }
+
+    /// A request comes out: it is withdrawn, and its warp has the outcome to fetch, at the stamp that it had.
+    fn come_out(&mut self, warp: u32, outcome: Outcome)
+        requires waiting { is_waiting (warp_row self.old.tables warp).phase ≡ true }
+        requires bound { next_stamp outcome ≤ highest_stamp }
+        ensures after { state M.Memory.at B.Book.kind B.Book.model self.new
+            ≡ settles (state M.Memory.at B.Book.kind B.Book.model self.old) warp outcome }
+        ensures memory { self.new.memory ≡ self.old.memory }
+    {
+        self.withdraw(warp);
+        self.settle(warp, outcome);
+    }
+
+    /// A request that waited goes on: it is withdrawn, served as any other, and its warp has the outcome to fetch.
+    fn serve_waiting(&mut self, request: Request)
+        requires inside { request.line < line_limit }
+        requires waiting { is_waiting (warp_row self.old.tables request.warp).phase ≡ true }
+        requires room { has_room (warp_row self.old.tables request.warp) request.access ≡ true }
+        ensures after { state M.Memory.at B.Book.kind B.Book.model self.new
+            ≡ comes_through (state M.Memory.at B.Book.kind B.Book.model self.old) request.warp
+            request.line request.access }
+        ensures memory { self.new.memory ≡ self.old.memory }
+    {
+        self.withdraw(request.warp);
+        let outcome = self.serve(request);
+        self.settle(request.warp, outcome);
     }
 
     /// A warp's turn at a line; it is passed over unless it waits there.
     fn try_turn(&mut self, line: u32, warp: u32)
         requires { line < line_limit }
-        ensures { state M.Memory.at B.Book.kind B.Book.model self.new
+        ensures after { state M.Memory.at B.Book.kind B.Book.model self.new
             ≡ try_at line (state M.Memory.at B.Book.kind B.Book.model self.old) warp }
+        ensures memory { self.new.memory ≡ self.old.memory }
     {
         let Some(access) = self.tables.pending(warp, line) else {
             return;
@@ -127,13 +144,13 @@ impl<M: Memory, B: Book> Machine<M, B> {
         }
     }
 
-    // A call of its own, so that the room for the turns is made only where somebody waits.
     /// Every turn at a line.
-    #[inline(never)]
     fn try_turns(&mut self, line: u32)
         requires { line < line_limit }
-        ensures { state M.Memory.at B.Book.kind B.Book.model self.new
-            ≡ wake_at (state M.Memory.at B.Book.kind B.Book.model self.old) line }
+        ensures after { state M.Memory.at B.Book.kind B.Book.model self.new
+            ≡ wake_at (policy_of B.Book.kind self.old)
+            (state M.Memory.at B.Book.kind B.Book.model self.old) line }
+        ensures memory { self.new.memory ≡ self.old.memory }
     {
         let turns = self.tables.turns(line);
         for warp in turns.as_slice() {
@@ -142,11 +159,12 @@ impl<M: Memory, B: Book> Machine<M, B> {
     }
 
     /// The turns at a line, if anybody waits there.
-    #[inline(always)]
     pub(crate) fn wake(&mut self, line: u32)
         requires { line < line_limit }
-        ensures { state M.Memory.at B.Book.kind B.Book.model self.new
-            ≡ wake_at (state M.Memory.at B.Book.kind B.Book.model self.old) line }
+        ensures after { state M.Memory.at B.Book.kind B.Book.model self.new
+            ≡ wake_at (policy_of B.Book.kind self.old)
+            (state M.Memory.at B.Book.kind B.Book.model self.old) line }
+        ensures memory { self.new.memory ≡ self.old.memory }
     {
         if self.tables.any_waits(line) {
             self.try_turns(line);

@@ -1,12 +1,13 @@
 -- The causes by their numbers, the answers by their words.
-use Rattle.std.specs.Prelude.{ℕ, List, [], ◌∷◌, ◌++◌, fold, codes, decimal}
+use Rattle.std.specs.Prelude.{ℕ, List, [], ◌∷◌, ◌++◌, Ok, Err, Result, fold, codes, decimal}
 use Rattle.protocol.specs.Faults.{refusal_number}
+use Rattle.protocol.specs.declared.fault.Fault.{Fault}
 use Rattle.protocol.specs.declared.answer.Cause.{Cause}
 use Rattle.protocol.specs.declared.answer.Cause.TheVariants.{WrittenLater, ReadLater, QueueFull, NoSlot}
 use Rattle.protocol.specs.declared.answer.Outcome.{Outcome}
 use Rattle.protocol.specs.declared.answer.Outcome.TheVariants.{Value, Stored, Gone as Lost}
 use Rattle.protocol.specs.declared.answer.Answer.{Answer}
-use Rattle.protocol.specs.declared.answer.Answer.TheVariants.{Ok, Val, Wait, Gone, No}
+use Rattle.protocol.specs.declared.answer.Answer.TheVariants.{Done, Val, Wait, Gone}
 
 -- The number by which listings name a cause.
 abbrev pub cause_number : Cause → ℕ
@@ -17,19 +18,17 @@ cause_number NoSlot = 4
 
 -- The word by which listings name an answer.
 abbrev pub answer_word : Answer → List ℕ
-answer_word Ok = codes "ok"
+answer_word Done = codes "ok"
 answer_word (Val value) = codes "val"
 answer_word Wait = codes "wait"
 answer_word (Gone cause next) = codes "gone"
-answer_word (No fault) = codes "no"
 
 -- The numbers that an answer tells.
 abbrev pub answer_numbers : Answer → List ℕ
-answer_numbers Ok = []
+answer_numbers Done = []
 answer_numbers (Val value) = value ∷ []
 answer_numbers Wait = []
 answer_numbers (Gone cause next) = cause_number cause ∷ next ∷ []
-answer_numbers (No fault) = refusal_number fault.refusal ∷ []
 
 -- A text, and after a blank one number more.
 abbrev pub with_number : List ℕ → ℕ → List ℕ
@@ -39,8 +38,17 @@ with_number text number = text ++ (codes " " ++ decimal number)
 abbrev pub answer_text : Answer → List ℕ
 answer_text answer = fold with_number (answer_word answer) (answer_numbers answer)
 
+-- A refusal as listings print it: the word `no` and the refusal's number.
+abbrev pub refusal_text : Fault → List ℕ
+refusal_text fault = with_number (codes "no") (refusal_number fault.refusal)
+
+-- What a call comes to, as listings print it: its answer, or its refusal.
+abbrev pub reply_text : Result Answer Fault → List ℕ
+reply_text (Ok answer) = answer_text answer
+reply_text (Err fault) = refusal_text fault
+
 -- The answer that tells an outcome.
 abbrev pub answer_of : Outcome → Answer
 answer_of (Value value) = Val value
-answer_of Stored = Ok
+answer_of Stored = Done
 answer_of (Lost cause next) = Gone cause next

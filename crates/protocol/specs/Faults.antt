@@ -1,5 +1,5 @@
 -- The refusals by their numbers, and who tells which.
-use Rattle.std.specs.Prelude.{◌≡◌, ℕ, cond, ◌==◌}
+use Rattle.std.specs.Prelude.{◌≡◌, ℕ}
 use Rattle.protocol.specs.declared.fault.Fault.{Fault}
 use Rattle.protocol.specs.declared.fault.Layer.{Layer}
 use Rattle.protocol.specs.declared.fault.Layer.TheVariants.{Memory, File, Machine}
@@ -33,7 +33,21 @@ NumbersTellApart = (one other : Refusal) → refusal_number one ≡ refusal_numb
 
 -- Who tells that a call is refused: of a line that is lacking the memory, of all else the machine.
 abbrev pub call_layer : Refusal → Layer
-call_layer why = cond (refusal_number why == 6) Memory Machine
+call_layer NoSuchWarp = Machine
+call_layer WarpIdle = Machine
+call_layer WarpNotIdle = Machine
+call_layer OutcomePending = Machine
+call_layer NothingToFetch = Machine
+call_layer NoSuchLine = Memory
+call_layer LogFull = Machine
+call_layer ClockSpent = Machine
+call_layer BadSize = Machine
+call_layer BadStamp = Machine
+call_layer BadMark = Machine
+call_layer BadVersion = Machine
+call_layer CutShort = Machine
+call_layer BadLetter = Machine
+call_layer TooManyRows = Machine
 
 -- A call is refused: why, and the offending warp, line, stamp or count.
 abbrev pub fault_in_call : Refusal → ℕ → Fault

@@ -1,9 +1,7 @@
 //! What the machine answers, and how a load or a store comes out.
 ghost use Rattle.std.specs.Prelude.{◌≡◌, Some};
 ghost use Rattle.protocol.specs.Answers.{answer_of, answer_word, answer_text, cause_number};
-ghost use Rattle.protocol.specs.declared.answer.Answer.TheVariants.{No};
 
-use crate::fault::Fault;
 use std::fmt;
 
 /// Why a transaction is gone, in the order of the numbers that listings print.
@@ -32,19 +30,17 @@ pub enum Outcome {
     Gone { cause: Cause, next: u64 },
 }
 
-/// The answer to a call.
+/// The answer to a call that is not refused. A refusal is no answer: it comes as an `Err` with its fault.
 #[derive(Clone, Copy, PartialEq, Eq, Debug)]
 pub enum Answer {
-    /// The call is done.
-    Ok,
+    /// The call is done. Listings print `ok`.
+    Done,
     /// The value of the line that was loaded.
     Val { value: u32 },
     /// The load or the store waits.
     Wait,
     /// The transaction is gone, and its warp goes on at the next stamp.
     Gone { cause: Cause, next: u64 },
-    /// The call is refused.
-    No { fault: Fault },
 }
 
 impl Cause {
@@ -63,18 +59,9 @@ impl From<Outcome> for Answer {
     fn from(outcome: Outcome) -> Answer {
         match outcome {
             Outcome::Value { value } => Answer::Val { value },
-            Outcome::Stored => Answer::Ok,
+            Outcome::Stored => Answer::Done,
             Outcome::Gone { cause, next } => Answer::Gone { cause, next },
         }
-    }
-}
-
-/// The answer to a call that is refused.
-impl From<Fault> for Answer {
-    ghost from_gives = { λ fault answer. answer ≡ No fault };
-
-    fn from(fault: Fault) -> Answer {
-        Answer::No { fault }
     }
 }
 
@@ -84,11 +71,10 @@ impl Answer {
         ensures { result.now ≡ answer_word self }
     {
         match self {
-            Answer::Ok => "ok",
+            Answer::Done => "ok",
             Answer::Val { .. } => "val",
             Answer::Wait => "wait",
             Answer::Gone { .. } => "gone",
-            Answer::No { .. } => "no",
         }
     }
 }
@@ -100,10 +86,9 @@ impl fmt::Display for Answer {
     fn fmt<W: fmt::Write>(&self, f: &mut fmt::Formatter<W>) -> fmt::Result {
         let word = self.word();
         match *self {
-            Answer::Ok | Answer::Wait => write!(f, "{word}"),
+            Answer::Done | Answer::Wait => write!(f, "{word}"),
             Answer::Val { value } => write!(f, "{word} {value}"),
             Answer::Gone { cause, next } => write!(f, "{word} {} {next}", cause.number()),
-            Answer::No { fault } => write!(f, "{word} {}", fault.refusal.number()),
         }
     }
 }

@@ -1,6 +1,9 @@
 //! A refusal, with who tells it and the number that it is about.
-ghost use Rattle.std.specs.Prelude.{◌≡◌};
-ghost use Rattle.protocol.specs.Faults.{refusal_number, NumbersTellApart, fault_in_call, fault_in_file, told_of};
+ghost use Rattle.std.specs.Prelude.{◌≡◌, Some};
+ghost use Rattle.protocol.specs.Answers.{refusal_text};
+ghost use Rattle.protocol.specs.Faults.{refusal_number, NumbersTellApart, call_layer, fault_in_call, fault_in_file, told_of};
+
+use std::fmt;
 
 /// Why a call is refused or a calls file is damaged: a closed list, in the order of the numbers that listings print.
 #[derive(Clone, Copy, PartialEq, Eq, Debug)]
@@ -62,6 +65,38 @@ impl Refusal {
     {
         self as u8
     }
+
+    /// The part that tells the refusal of a call: of a line that is lacking the memory, of all else the machine.
+    fn call_layer(self) -> Layer
+        ensures { result ≡ call_layer self }
+    {
+        match self {
+            Refusal::NoSuchLine => Layer::Memory,
+            Refusal::NoSuchWarp
+            | Refusal::WarpIdle
+            | Refusal::WarpNotIdle
+            | Refusal::OutcomePending
+            | Refusal::NothingToFetch
+            | Refusal::LogFull
+            | Refusal::ClockSpent
+            | Refusal::BadSize
+            | Refusal::BadStamp
+            | Refusal::BadMark
+            | Refusal::BadVersion
+            | Refusal::CutShort
+            | Refusal::BadLetter
+            | Refusal::TooManyRows => Layer::Machine,
+        }
+    }
+}
+
+/// A refusal as listings print it: `no` and its number.
+impl fmt::Display for Fault {
+    ghost output = { λ fault. Some (refusal_text fault) };
+
+    fn fmt<W: fmt::Write>(&self, f: &mut fmt::Formatter<W>) -> fmt::Result {
+        write!(f, "no {}", self.refusal.number())
+    }
 }
 
 impl Fault {
@@ -69,13 +104,9 @@ impl Fault {
     pub fn in_call(refusal: Refusal, number: u64) -> Fault
         ensures { result ≡ fault_in_call refusal number }
     {
-        let layer = match refusal {
-            Refusal::NoSuchLine => Layer::Memory,
-            _ => Layer::Machine,
-        };
         Fault {
             refusal,
-            layer,
+            layer: refusal.call_layer(),
             number,
         }
     }

@@ -25,7 +25,7 @@ use Rattle.rules.specs.declared.state.Phase.TheVariants.{Idle, Open, Waiting, Se
 use Rattle.rules.specs.declared.state.Request.{Request}
 use Rattle.rules.specs.Lists.{has}
 use Rattle.rules.specs.State.{Machine, idle_at, is_idle, is_waiting, warp_row_of, time_of}
-use Rattle.rules.specs.Access.{Verdict, told, own_line, lost, must_wait, go_on}
+use Rattle.rules.specs.Access.{Verdict, told, decide, own_line, lost, must_wait, go_on}
 use Rattle.rules.specs.Queue.{Policy, request_of, is_full}
 use Rattle.rules.specs.Refusals.{phase_refuses, faulty, unless, has_line, number_fault, fault_of}
 use Rattle.rules.specs.Serving.{serves, serves_own}
@@ -36,9 +36,9 @@ use Rattle.rules.specs.Ending.{ends}
 use Rattle.rules.specs.Making.{making_fault, first_warp_rows, make}
 use Rattle.rules.specs.Transactions.{Transaction, writes, named}
 use Rattle.rules.specs.Ledger.{ends_here, commits, Ledger, settles_one, says, hears, new_ledger, ledger_of}
-use Rattle.rules.proofs.Verdicts.{Means, decide_means}
+use Rattle.rules.proofs.Verdicts.{Means, decide_means, room_means}
 use Rattle.rules.proofs.Invariant.{Inv}
-use Rattle.rules.proofs.Moves.{Room, serves_keeps, serves_own_keeps, waits_keeps, reopened_keeps, ends_keep}
+use Rattle.rules.proofs.Moves.{Room, serves_keeps, serves_own_keeps, waits_keeps, phase_keeps, ends_keep}
 use Rattle.rules.proofs.Moves.{commits_keep, begin_keeps}
 use Rattle.rules.proofs.Tries.{has_transaction, ends_keeps}
 
@@ -110,57 +110,61 @@ module _ (k : Kind) (first : Lines) (keeps : Keeps k) (policy : Policy k) (E₀ 
       Kept op s =
           Inv k first E s.machine (fold settles_one (says l w (warp_row_of m w).stamp op s.answer) s.settled)
 
-      module _ (tx : Transaction) (mine : l.current w ≡ Some tx) (calm : is_waiting (warp_row_of m w).phase ≡ false) where
-        gone_keeps :
-            (op : Op) (cause : Cause) (next : ℕ)
-            → Kept op (ended (ends policy m w next) (Gone cause next))
-        gone_keeps op cause next =
-            ends_keeps k first keeps (ends_here l w) policy E₀ covers m w next
-            (ends_keep k first keeps E m l I w tx mine next calm)
+      module _
+          (tx : Transaction) (mine : l.current w ≡ Some tx) (calm : is_waiting (warp_row_of m w).phase ≡ false)
+        where
+          gone_keeps :
+              (op : Op) (cause : Cause) (next : ℕ)
+              → Kept op (ended (ends policy m w next) (Gone cause next))
+          gone_keeps op cause next =
+              ends_keeps k first keeps (ends_here l w) policy E₀ covers m w next
+              (ends_keep k first keeps E m l I w tx mine next calm)
 
-        accessed_keeps :
-            (line : ℕ) → line < line_limit → is_some (first line) ≡ true → (access : Access) (v : Verdict)
-            → Room access (warp_row_of m w)
-            → Means (k.owner m.book line ≡ Some w) access (told k m.book line) (time_of m w) v
-            → Kept (op_of access line) (accessed policy m w line access v)
-        unfolding accessed serves serves_own
-        accessed_keeps line low there Read own_line room owned =
-            serves_own_keeps k first keeps E m l I w tx mine line low there Read room owned
-        accessed_keeps line low there (Write value) own_line room owned =
-            serves_own_keeps k first keeps E m l I w tx mine line low there (Write value) room owned
-        accessed_keeps line low there access (lost cause next) room u = gone_keeps (op_of access line) cause next
-        accessed_keeps line low there access must_wait room stall =
-            waits_keeps k first keeps E m l I w tx mine line low there access calm stall
-        accessed_keeps line low there Read go_on room go =
-            serves_keeps k first keeps E m l I w tx mine line low there Read go
-        accessed_keeps line low there (Write value) go_on room go =
-            serves_keeps k first keeps E m l I w tx mine line low there (Write value) go
+          accessed_keeps :
+              (line : ℕ) → line < line_limit → is_some (first line) ≡ true → (access : Access) (v : Verdict)
+              → Room access (warp_row_of m w)
+              → Means (k.owner m.book line ≡ Some w) access (told k m.book line) (time_of m w) v
+              → Kept (op_of access line) (accessed policy m w line access v)
+          unfolding accessed serves serves_own
+          accessed_keeps line low there Read own_line room owned =
+              serves_own_keeps k first keeps E m l I w tx mine line low there Read room owned
+          accessed_keeps line low there (Write value) own_line room owned =
+              serves_own_keeps k first keeps E m l I w tx mine line low there (Write value) room owned
+          accessed_keeps line low there access (lost cause next) room u = gone_keeps (op_of access line) cause next
+          accessed_keeps line low there access must_wait room stall =
+              waits_keeps k first keeps E m l I w tx mine line low there access calm stall
+          accessed_keeps line low there Read go_on room go =
+              serves_keeps k first keeps E m l I w tx mine line low there Read go
+          accessed_keeps line low there (Write value) go_on room go =
+              serves_keeps k first keeps E m l I w tx mine line low there (Write value) go
 
-        accesses_keeps :
-            (line : ℕ) → has_line m line ≡ true → (access : Access) → Room access (warp_row_of m w)
-            → Kept (op_of access line) (accesses policy m w line access)
-        accesses_keeps line h access room =
-            let p = and_parts (ltb line line_limit) (is_some (m.lines line)) h in
-            accessed_keeps line (ltb-true line line_limit p.0)
-            (sym (I.history.core.same_lines line) ∙ p.1) access (verdict_at policy m w line access) room
-            (decide_means access (told k m.book line) (time_of m w)
-            (is_full policy.line_room policy.queue_room m.queue line))
+          accesses_keeps :
+              (line : ℕ) → has_line m line ≡ true → (access : Access) → Room access (warp_row_of m w)
+              → Kept (op_of access line) (accesses policy m w line access)
+          accesses_keeps line h access room =
+              let p = and_parts (ltb line line_limit) (is_some (m.lines line)) h in
+              accessed_keeps line (ltb-true line line_limit p.0)
+              (sym (I.history.core.same_lines line) ∙ p.1) access (verdict_at policy m w line access) room
+              (room_means (k.owner m.book line ≡ Some w) access (told k m.book line) (time_of m w)
+              (is_full policy.line_room policy.queue_room m.queue line) (warp_row_of m w).stamp
+              (decide access (told k m.book line) (time_of m w))
+              (decide_means access (told k m.book line) (time_of m w)))
 
-        fetched_keeps : (outcome : Outcome) → Kept Fetch (fetched policy m w outcome)
-        unfolding fetched
-        fetched_keeps (Value v) = reopened_keeps k first keeps E m l I w tx mine calm
-        fetched_keeps Stored = reopened_keeps k first keeps E m l I w tx mine calm
-        fetched_keeps (Lost cause next) = gone_keeps Fetch cause next
+          fetched_keeps : (outcome : Outcome) → Kept Fetch (fetched policy m w outcome)
+          unfolding fetched
+          fetched_keeps (Value v) = phase_keeps k first keeps E m l I w tx mine Open refl refl calm
+          fetched_keeps Stored = phase_keeps k first keeps E m l I w tx mine Open refl refl calm
+          fetched_keeps (Lost cause next) = gone_keeps Fetch cause next
 
-        commit_keeps : Kept Commit (granted policy m w Commit)
-        commit_keeps =
-            ends_keeps k first keeps (commits l w) policy E₀ covers (writes_back m w) w
-            (warp_row_of m w).stamp (commits_keep k first keeps E m l I w tx mine (warp_row_of m w).stamp calm)
+          commit_keeps : Kept Commit (granted policy m w Commit)
+          commit_keeps =
+              ends_keeps k first keeps (commits l w) policy E₀ covers (writes_back m w) w
+              (warp_row_of m w).stamp (commits_keep k first keeps E m l I w tx mine (warp_row_of m w).stamp calm)
 
-        drop_keeps : Kept Drop (granted policy m w Drop)
-        drop_keeps =
-            ends_keeps k first keeps (ends_here l w) policy E₀ covers m w (warp_row_of m w).stamp
-            (ends_keep k first keeps E m l I w tx mine (warp_row_of m w).stamp calm)
+          drop_keeps : Kept Drop (granted policy m w Drop)
+          drop_keeps =
+              ends_keeps k first keeps (ends_here l w) policy E₀ covers m w (warp_row_of m w).stamp
+              (ends_keep k first keeps E m l I w tx mine (warp_row_of m w).stamp calm)
 
       its : is_idle (warp_row_of m w).phase ≡ false → (tx : Transaction) × (l.current w ≡ Some tx)
       its e = has_transaction (warp_row_of m w) (l.current w) (I.warp_rows w) e
@@ -179,7 +183,8 @@ module _ (k : Kind) (first : Lines) (keeps : Keeps k) (policy : Policy k) (E₀ 
           → number_fault m w op ≡ None → Kept op (granted policy m w op)
       granted_keeps Begin low phase number =
           begin_keeps k first keeps E m l I w low (begin_idle (warp_row_of m w).phase phase)
-          (leb-true (warp_row_of m w).stamp last_stamp (unless_none (leb (warp_row_of m w).stamp last_stamp) _ _ number))
+          (leb-true (warp_row_of m w).stamp last_stamp
+          (unless_none (leb (warp_row_of m w).stamp last_stamp) _ _ number))
       granted_keeps (Load line) low phase number =
           let o = load_open line (warp_row_of m w).phase phase in
           let t = its o.0 in

@@ -1,12 +1,12 @@
 -- What holds between the transactions of a run, the book and the memory, and how each small move keeps it.
 use Rattle.std.proofs.Common.{◌≡◌, ℕ, ◌<◌, ◌≤◌, Bool, true, false, cond, ◌&&◌, eqb, ◌⊎◌, List, length, is_some, Some, None, Option, sym, refl, ap, ◌∙◌, subst, inl, inr, arith}
-use Rattle.std.proofs.lemmas.Bool.{eqb-true, eqb-false, eq-eqb, ne_eqb, cases_eq}
+use Rattle.std.proofs.lemmas.Bool.{both_ways, eqb-true, eqb-false, eq-eqb, cases_eq}
 use Rattle.std.proofs.lemmas.Bool.Decides.{nat_tests}
 use Rattle.protocol.specs.Limits.{line_limit}
 use Rattle.memory.specs.Lines.{Lines}
 use Rattle.book.specs.Meaning.{Kind}
 use Rattle.book.specs.Time.{Time, earlier}
-use Rattle.rules.specs.Lists.{last_of}
+use Rattle.rules.specs.Lists.{has, last_of}
 use Rattle.rules.specs.Transactions.{Found, Transaction, named, writers, last_found}
 use Rattle.rules.proofs.Replay.{found_value, writer, EachLoad}
 use Rattle.rules.proofs.Serial.{key, stamp_at, Right}
@@ -27,9 +27,9 @@ key_rises s w t v m l p q = grind (arith, nat_tests)
 abbrev pub with_hold : Holding → ℕ → ℕ → ℕ → Holding
 with_hold H w at t h line = cond (eqb h w && eqb line at) (Some t) (H h line)
 
--- A warp lets its lines go.
-abbrev pub without_holds : Holding → ℕ → Holding
-without_holds H w h line = cond (eqb h w) None (H h line)
+-- A warp lets some lines go.
+abbrev pub without_holds : Holding → ℕ → List ℕ → Holding
+without_holds H w gone h line = cond (eqb h w && has line gone) None (H h line)
 
 module _ (k : Kind) where
   -- The book moves on: no told stamp gets earlier, no owner changes.
@@ -50,11 +50,13 @@ module _ (k : Kind) where
     pub warp_low : w < 32
     pub line_low : at < line_limit
 
-  pub record LetGo (H : Holding) (s s' : k.State) (w : ℕ) : Type 0 where
+  -- Some lines that a warp holds are released.
+  pub record LetGo (H : Holding) (s s' : k.State) (w : ℕ) (gone : List ℕ) : Type 0 where
+    pub its : (line : ℕ) → has line gone ≡ true → (t : ℕ) × (H w line ≡ Some t)
     pub stamps : (line : ℕ) → line < line_limit → k.write_stamp s line ≤ k.write_stamp s' line
     pub marks : (line : ℕ) → line < line_limit → earlier (k.read_mark s' line) (k.read_mark s line) ≡ false
-    pub released : (line t : ℕ) → line < line_limit → H w line ≡ Some t → k.owner s' line ≡ None
-    pub others : (line : ℕ) → line < line_limit → H w line ≡ None → k.owner s' line ≡ k.owner s line
+    pub released : (line : ℕ) → line < line_limit → has line gone ≡ true → k.owner s' line ≡ None
+    pub others : (line : ℕ) → line < line_limit → has line gone ≡ false → k.owner s' line ≡ k.owner s line
 
 module _ (k : Kind) (first : Lines) where
   -- Who holds a line: the book's owner, with a stamp below the line's write stamp and above every writer's.
@@ -253,14 +255,20 @@ module _ (k : Kind) (first : Lines) where
           step h u (inr p) = r.held h u p
 
   module _
-      (txs : List Transaction) (H : Holding) (lines : Lines) (s s' : k.State) (w : ℕ) (g : LetGo k H s s' w)
+      (txs : List Transaction) (H : Holding) (lines : Lines) (s s' : k.State) (w : ℕ) (gone : List ℕ)
+      (g : LetGo k H s s' w gone)
     where
-      pub still_held : (h line t : ℕ) → without_holds H w h line ≡ Some t → (h ≡ w → ⊥) × (H h line ≡ Some t)
-      still_held h line t e = step (eqb h w) refl e
+      pub still_held :
+          (h line t : ℕ) → without_holds H w gone h line ≡ Some t
+          → (h ≡ w → has line gone ≡ true → ⊥) × (H h line ≡ Some t)
+      still_held h line t e = step (eqb h w) refl (has line gone) refl e
         where
-          step : (b : Bool) → eqb h w ≡ b → cond b None (H h line) ≡ Some t → (h ≡ w → ⊥) × (H h line ≡ Some t)
-          step true p q = (λ r. let z : ◌≡◌ {A = ℕ} 0 1 = cc in omega arith, (cc))
-          step false p q = (eqb-false h w p, q)
+          step :
+              (b : Bool) → eqb h w ≡ b → (c : Bool) → has line gone ≡ c → cond (b && c) None (H h line) ≡ Some t
+              → (h ≡ w → has line gone ≡ true → ⊥) × (H h line ≡ Some t)
+          step true p true q r = let z : ◌≡◌ {A = ℕ} 0 1 = cc in absurd (omega arith)
+          step true p false q r = (λ x y. both_ways (has line gone) q y, r)
+          step false p c q r = (λ x y. eqb-false h w p x, r)
 
       -- Two warps do not hold one line.
       pub one_holder : Core txs H lines s → (h v line t u : ℕ) → H h line ≡ Some t → H v line ≡ Some u → h ≡ v
@@ -269,7 +277,7 @@ module _ (k : Kind) (first : Lines) where
           let b = (c.holder v line u q).owns in
           cc
 
-      pub core_let_go : Core txs H lines s → Core txs (without_holds H w) lines s'
+      pub core_let_go : Core txs H lines s → Core txs (without_holds H w gone) lines s'
       core_let_go c =
           record {
             sorted = c.sorted;
@@ -284,51 +292,51 @@ module _ (k : Kind) (first : Lines) where
             last = c.last;
             same_lines = c.same_lines;
             holder = holder_now;
-            owner_holds = λ line h l e. owner_now line h l e (H w line) refl;
+            owner_holds = λ line h l e. owner_now line h l e (has line gone) refl;
           }
         where
-          free_of_w : (h line t : ℕ) → (h ≡ w → ⊥) → H h line ≡ Some t → H w line ≡ None
-          free_of_w h line t n p = step (H w line) refl
-            where
-              step : (o : Option ℕ) → H w line ≡ o → o ≡ None
-              step None q = refl
-              step (Some u) q = absurd (n (one_holder c h w line t u p q))
+          not_gone :
+              (h line t : ℕ) → (h ≡ w → has line gone ≡ true → ⊥) → H h line ≡ Some t → (b : Bool)
+              → has line gone ≡ b → b ≡ false
+          not_gone h line t n p true q =
+              let its = g.its line q in
+              absurd (n (one_holder c h w line t its.0 p its.1) q)
+          not_gone h line t n p false q = refl
 
-          holder_now : (h line t : ℕ) → without_holds H w h line ≡ Some t → Holder txs lines s' h line t
+          holder_now : (h line t : ℕ) → without_holds H w gone h line ≡ Some t → Holder txs lines s' h line t
           holder_now h line t e =
               let kept = still_held h line t e in
               let old = c.holder h line t kept.1 in
               record {
                 warp_low = old.warp_low;
                 line_low = old.line_low;
-                owns = g.others line old.line_low (free_of_w h line t kept.0 kept.1) ∙ old.owns;
+                owns =
+                    g.others line old.line_low (not_gone h line t kept.0 kept.1 (has line gone) refl) ∙ old.owns;
                 passes = let a = old.passes in let b = g.stamps line old.line_low in omega arith;
                 there = old.there;
                 above = old.above;
               }
 
+          flat : (b : Bool) → (b && false) ≡ false
+          flat true = refl
+          flat false = refl
+
           owner_now :
-              (line h : ℕ) → line < line_limit → k.owner s' line ≡ Some h → (o : Option ℕ) → H w line ≡ o
-              → (t : ℕ) × (without_holds H w h line ≡ Some t)
-          owner_now line h l e (Some t) q =
-              let r = g.released line t l q in
+              (line h : ℕ) → line < line_limit → k.owner s' line ≡ Some h → (b : Bool) → has line gone ≡ b
+              → (t : ℕ) × (without_holds H w gone h line ≡ Some t)
+          owner_now line h l e true q =
+              let r = g.released line l q in
               let z : ◌≡◌ {A = ℕ} 0 1 = cc in
               absurd (omega arith)
-          owner_now line h l e None q =
+          owner_now line h l e false q =
               let old = c.owner_holds line h l (sym (g.others line l q) ∙ e) in (
                 old.0,
-                ap (λ b. cond b None (H h line))
-                    (ne_eqb h w
-                    (λ r.
-                    let a : H w line ≡ Some old.0 = ap (λ v. H v line) (sym r) ∙ old.1 in
-                    let z : ◌≡◌ {A = ℕ} 0 1 = cc in
-                    omega arith))
-                    ∙ old.1,
+                ap (λ b. cond b None (H h line)) (ap (λ b. eqb h w && b) q ∙ flat (eqb h w)) ∙ old.1,
               )
 
       pub read_let_go :
           (place stamp warp line v : ℕ) (f : Found) → ReadNow txs H s place stamp warp line v f
-          → ReadNow txs (without_holds H w) s' place stamp warp line v f
+          → ReadNow txs (without_holds H w gone) s' place stamp warp line v f
       read_let_go place stamp warp line v f r =
           record {
             right = r.right;

@@ -90,7 +90,7 @@ module _ (k : Kind) (first : Lines) where
       → (is_waiting (warp_row_of m' w).phase ≡ true → Waiter E' m' l' w)
       → (is_waiting (warp_row_of m' w).phase ≡ false → request_of m'.queue w ≡ None)
       → Tallied k l' m'.book → Inv E' m' l'
-  one_warp_row E E' m m' l l' w I good history size warp_rows currents requests blocks mine waits_here quiet_here tallied =
+  one_warp_row E E' m m' l l' w I good history size warp_rows currents requests blocks mine waiter quiet_here tally =
       record {
         good = good;
         history = history;
@@ -98,7 +98,7 @@ module _ (k : Kind) (first : Lines) where
         size = let a = I.size in omega arith;
         waiters = λ v. waiters_now v (cases_eq v w);
         quiet = λ v. quiet_now v (cases_eq v w);
-        tallied = tallied;
+        tallied = tally;
       }
     where
       warp_rows_now : (v : ℕ) → (v ≡ w) ⊎ (v ≡ w → ⊥) → Matches (warp_row_of m' v) (l'.current v)
@@ -111,7 +111,7 @@ module _ (k : Kind) (first : Lines) where
           (v : ℕ) → (v ≡ w) ⊎ (v ≡ w → ⊥) → is_waiting (warp_row_of m' v).phase ≡ true → Waiter E' m' l' v
       waiters_now v (inl e) p =
           subst (Waiter E' m' l') (sym e)
-          (waits_here (subst (λ u. is_waiting (warp_row_of m' u).phase ≡ true) e p))
+          (waiter (subst (λ u. is_waiting (warp_row_of m' u).phase ≡ true) e p))
       waiters_now v (inr n) p =
           let same = warp_rows v n in
           let old = I.waiters v (subst (λ (warp_row : WarpRow). is_waiting warp_row.phase ≡ true) same p) in

@@ -1,5 +1,5 @@
 -- The machine's account, move by move: begin, a load or a store that joins, an end, a commit.
-use Rattle.std.proofs.Common.{◌≡◌, ℕ, suc, ◌<◌, ◌≤◌, Bool, true, false, cond, ◌&&◌, eqb, ◌⊎◌, [], ◌∷◌, ◌++◌, length, is_some, Some, None, Option, sym, refl, ap, ◌∙◌, subst, inl, inr, arith}
+use Rattle.std.proofs.Common.{◌≡◌, ℕ, suc, ◌<◌, ◌≤◌, Bool, true, false, cond, ◌&&◌, eqb, ◌⊎◌, List, [], ◌∷◌, ◌++◌, length, is_some, Some, None, Option, sym, refl, ap, ◌∙◌, subst, inl, inr, arith}
 use mathlib.Core.Path.{fun_ext}
 use Rattle.std.proofs.lemmas.Bool.{lt-ltb, eqb-true, eqb-false, cases_lt, cases_order}
 use Rattle.std.proofs.lemmas.List.{length_push}
@@ -9,8 +9,10 @@ use Rattle.memory.specs.Lines.{Lines}
 use Rattle.book.specs.Meaning.{Kind}
 use Rattle.book.specs.Time.{earlier}
 use Rattle.rules.specs.Lists.{has, last_of, upto}
+use Rattle.rules.specs.Logs.{entry}
 use Rattle.rules.specs.Steps.{written}
-use Rattle.rules.specs.Transactions.{Found, Deed, loaded, stored, Transaction, own_store, writes, stores_of, named}
+use Rattle.rules.specs.Transactions.{Found, Deed, loaded, stored, load_deed, Transaction, own_store, writes}
+use Rattle.rules.specs.Transactions.{stores_of, named}
 use Rattle.rules.specs.Transactions.{writers, last_found}
 use Rattle.rules.specs.Ledger.{Ledger, found_at, load_found, doing, with_current, joins_load, joins_store, begins}
 use Rattle.rules.specs.Ledger.{ends_here, as_list, commits}
@@ -136,31 +138,57 @@ module _ (k : Kind) (first : Lines) where
             step h line true p = sym (ap (λ o. hold_in o line) (ap l.current (eqb-true h w p) ∙ none))
             step h line false p = refl
 
-    -- A transaction ends without a commit.
-    pub ended : (s' : k.State) → LetGo k (hold l) s s' w → History (ends_here l w) lines s'
-    ended s' g =
-        changed l w None (without_holds (hold l) w) lines s' (let_go_holds l w)
-        (core_let_go k first l.committed (hold l) lines s s' w g H.core)
-        (λ i low. weaken i (named l.committed i) (H.past i low))
-        (λ h tx n e. weaken (length l.committed) tx (H.now h tx e))
-        (λ tx e. let z : ◌≡◌ {A = ℕ} 0 1 = cc in absurd (omega arith)) H.here
-      where
-        weaken :
-            (place : ℕ) (tx : Transaction) → Reads k first l.committed (hold l) s place tx
-            → Reads k first l.committed (without_holds (hold l) w) s' place tx
-        weaken place tx r =
-            each_weaker (ReadNow k first l.committed (hold l) s place tx.stamp tx.warp)
-            (ReadNow k first l.committed (without_holds (hold l) w) s' place tx.stamp tx.warp)
-            (read_let_go k first l.committed (hold l) lines s s' w g place tx.stamp tx.warp) tx.deeds r
+    -- A warp lets some lines go, and its transaction becomes another, if any, that holds the lines that are left.
+    module _ (gone : List ℕ) (s' : k.State) (g : LetGo k (hold l) s s' w gone) where
+      abbrev left : ℕ → Transaction → Type 0
+      left place tx = Reads k first l.committed (without_holds (hold l) w gone) s' place tx
 
-        let_go_holds : (l : Ledger) (w : ℕ) → hold (ends_here l w) ≡ without_holds (hold l) w
-        let_go_holds l w = fun_ext (λ h. fun_ext (λ line. step h line (eqb h w)))
-          where
-            step :
-                (h line : ℕ) (b : Bool)
-                → hold_in (cond b None (l.current h)) line ≡ cond b None (hold_in (l.current h) line)
-            step h line true = refl
-            step h line false = refl
+      pub let_go :
+          (o : Option Transaction) → hold (with_current l w o) ≡ without_holds (hold l) w gone
+          → ((tx : Transaction) → o ≡ Some tx → left (length l.committed) tx × ((tx.warp ≡ w) × (w < 32)))
+          → History (with_current l w o) lines s'
+      let_go o holds its =
+          changed l w o (without_holds (hold l) w gone) lines s' holds
+          (core_let_go k first l.committed (hold l) lines s s' w gone g H.core)
+          (λ i low. weaken i (named l.committed i) (H.past i low))
+          (λ h tx n e. weaken (length l.committed) tx (H.now h tx e))
+          its H.here
+        where
+          weaken : (place : ℕ) (tx : Transaction) → Reads k first l.committed (hold l) s place tx → left place tx
+          weaken place tx r =
+              each_weaker (ReadNow k first l.committed (hold l) s place tx.stamp tx.warp)
+              (ReadNow k first l.committed (without_holds (hold l) w gone) s' place tx.stamp tx.warp)
+              (read_let_go k first l.committed (hold l) lines s s' w gone g place tx.stamp tx.warp) tx.deeds r
+
+      -- It lets all its lines go.
+      pub nothing_left :
+          ((line t : ℕ) → hold l w line ≡ Some t → has line gone ≡ true)
+          → hold (ends_here l w) ≡ without_holds (hold l) w gone
+      nothing_left all = fun_ext (λ h. fun_ext (λ line. step h line (eqb h w) refl))
+        where
+          all_gone : (line : ℕ) (o : Option ℕ) → hold l w line ≡ o → cond (has line gone) None o ≡ None
+          all_gone line None e = same (has line gone)
+            where
+              same : (b : Bool) → ◌≡◌ {A = Option ℕ} (cond b None None) None
+              same true = refl
+              same false = refl
+          all_gone line (Some t) e = ap (λ b. cond b None (Some t)) (all line t e)
+
+          step :
+              (h line : ℕ) (b : Bool) → eqb h w ≡ b
+              → hold_in (cond b None (l.current h)) line
+              ≡ cond (b && has line gone) None (hold_in (l.current h) line)
+          step h line true p =
+              sym
+              (ap (λ v. cond (has line gone) None (hold l v line)) (eqb-true h w p)
+              ∙ all_gone line (hold l w line) refl)
+          step h line false p = refl
+
+      -- A transaction ends without a commit.
+      pub ended :
+          ((line t : ℕ) → hold l w line ≡ Some t → has line gone ≡ true) → History (ends_here l w) lines s'
+      ended all =
+          let_go None (nothing_left all) (λ tx e. let z : ◌≡◌ {A = ℕ} 0 1 = cc in absurd (omega arith))
 
     module _ (tx : Transaction) (mine : l.current w ≡ Some tx) where
       -- One deed more, with a book that has moved on.
@@ -214,8 +242,8 @@ module _ (k : Kind) (first : Lines) where
           (s' : k.State) → Grown k s s' → (line v : ℕ) → own_store tx.deeds line ≡ Some v
           → History (joins_load l w line v) lines s'
       load_own s' g line v e =
-          subst (λ l'. History l' lines s') (as_joined (λ t. loaded line v (load_found l.committed t line)))
-          (joined s' g (loaded line v (load_found l.committed tx line)) (λ n. refl)
+          subst (λ l'. History l' lines s') (as_joined (λ t. loaded (load_deed line v (load_found l.committed t line))))
+          (joined s' g (loaded (load_deed line v (load_found l.committed tx line))) (λ n. refl)
           (λ r. (
             subst
                 (λ o.
@@ -233,8 +261,8 @@ module _ (k : Kind) (first : Lines) where
           → earlier (k.read_mark s' line) (tx.stamp, tx.warp) ≡ false
           → History (joins_load l w line v) lines s'
       load_other s' g line v e value low nobody unwritten reached =
-          subst (λ l'. History l' lines s') (as_joined (λ t. loaded line v (load_found l.committed t line)))
-          (joined s' g (loaded line v (load_found l.committed tx line)) (λ n. refl)
+          subst (λ l'. History l' lines s') (as_joined (λ t. loaded (load_deed line v (load_found l.committed t line))))
+          (joined s' g (loaded (load_deed line v (load_found l.committed tx line))) (λ n. refl)
           (λ r. (
             subst
                 (λ o.
@@ -291,8 +319,8 @@ module _ (k : Kind) (first : Lines) where
           (s' : k.State) → Grown k s s' → (line v u : ℕ) → own_store tx.deeds line ≡ Some u
           → History (joins_store l w line v) lines s'
       store_own s' g line v u e =
-          subst (λ l'. History l' lines s') (as_joined (λ t. stored line v))
-          (joined s' g (stored line v) (λ n. step n (eqb line n) refl) (λ r. r))
+          subst (λ l'. History l' lines s') (as_joined (λ t. stored (entry line v)))
+          (joined s' g (stored (entry line v)) (λ n. step n (eqb line n) refl) (λ r. r))
         where
           step :
               (n : ℕ) (b : Bool) → eqb line n ≡ b
@@ -305,14 +333,14 @@ module _ (k : Kind) (first : Lines) where
           (s' : k.State) (line v : ℕ) → Taken k s s' w line tx.stamp → is_some (lines line) ≡ true
           → History (joins_store l w line v) lines s'
       store_new s' line v g there =
-          subst (λ l'. History l' lines s') (as_joined (λ t. stored line v))
-          (changed l w (Some (doing tx (stored line v))) (with_hold (hold l) w line tx.stamp) lines s' holds
+          subst (λ l'. History l' lines s') (as_joined (λ t. stored (entry line v)))
+          (changed l w (Some (doing tx (stored (entry line v)))) (with_hold (hold l) w line tx.stamp) lines s' holds
           (core_taken k first l.committed (hold l) lines s s' w line tx.stamp g H.core there)
           (λ i low.
           weaken i (named l.committed i) (H.core.warps i low) (H.past i low))
           (λ h t n e. weaken (length l.committed) t (warp_low h t e) (H.now h t e))
           (λ t e.
-          let p : doing tx (stored line v) ≡ t = cc in
+          let p : doing tx (stored (entry line v)) ≡ t = cc in
           let q = H.here w tx mine in (
             subst (Reads k first l.committed (with_hold (hold l) w line tx.stamp) s' (length l.committed)) p
                 (weaken (length l.committed) tx (warp_low w tx mine) (H.now w tx mine)),
@@ -334,7 +362,7 @@ module _ (k : Kind) (first : Lines) where
               n u f low)
               t.deeds r
 
-          holds : hold (with_current l w (Some (doing tx (stored line v)))) ≡ with_hold (hold l) w line tx.stamp
+          holds : hold (with_current l w (Some (doing tx (stored (entry line v))))) ≡ with_hold (hold l) w line tx.stamp
           holds = fun_ext (λ h. fun_ext (λ n. step h n (eqb h w) refl))
             where
               on_line :
@@ -346,7 +374,7 @@ module _ (k : Kind) (first : Lines) where
 
               step :
                   (h n : ℕ) (b : Bool) → eqb h w ≡ b
-                  → hold_in (cond b (Some (doing tx (stored line v))) (l.current h)) n
+                  → hold_in (cond b (Some (doing tx (stored (entry line v)))) (l.current h)) n
                   ≡ cond (b && eqb n line) (Some tx.stamp) (hold_in (l.current h) n)
               step h n true p =
                   on_line n (eqb line n)
@@ -357,9 +385,10 @@ module _ (k : Kind) (first : Lines) where
 
       -- A transaction commits: it lets its lines go, and its stores are in memory.
       pub committed :
-          (s' : k.State) → LetGo k (hold l) s s' w
+          (gone : List ℕ) (s' : k.State) → LetGo k (hold l) s s' w gone
+          → ((line t : ℕ) → hold l w line ≡ Some t → has line gone ≡ true)
           → History (commits l w) (written lines (stores_of tx.deeds)) s'
-      committed s' g =
+      committed gone s' g all =
           subst
           (λ o.
           History (record { current = (ends_here l w).current; committed = l.committed ++ as_list o })
@@ -377,7 +406,7 @@ module _ (k : Kind) (first : Lines) where
 
           ready :
               (line : ℕ) → writes tx.deeds line ≡ true
-              → Ready k first l.committed (without_holds (hold l) w) lines s' tx line
+              → Ready k first l.committed (without_holds (hold l) w gone) lines s' tx line
           ready line x =
               let old = H.core.holder w line tx.stamp (held_at line x) in
               record {
@@ -387,10 +416,11 @@ module _ (k : Kind) (first : Lines) where
                 above = old.above;
                 nobody =
                     λ h t e.
-                    let p = still_held k first l.committed (hold l) lines s s' w g h line t e in
+                    let p = still_held k first l.committed (hold l) lines s s' w gone g h line t e in
                     p.0
-                    (one_holder k first l.committed (hold l) lines s s' w g H.core h w line t tx.stamp p.1
-                    (held_at line x));
+                    (one_holder k first l.committed (hold l) lines s s' w gone g H.core h w line t tx.stamp p.1
+                    (held_at line x))
+                    (all line tx.stamp (held_at line x));
               }
 
           later :
@@ -399,10 +429,10 @@ module _ (k : Kind) (first : Lines) where
               → (key stamp warp ≤ key_of tx → (length l.committed ≡ place' → ⊥)
               → Earlier (key stamp warp) place' (key_of tx) (length l.committed))
               → ReadNow k first l.committed (hold l) s place stamp warp line v f
-              → ReadNow k first (l.committed ++ tx ∷ []) (without_holds (hold l) w) s' place' stamp warp line v f
+              → ReadNow k first (l.committed ++ tx ∷ []) (without_holds (hold l) w gone) s' place' stamp warp line v f
           later place place' stamp warp line v f moved newer r =
-              read_more k first l.committed (without_holds (hold l) w) lines s' tx place place' stamp warp line v f
-              (read_let_go k first l.committed (hold l) lines s s' w g place stamp warp line v f r) moved
+              read_more k first l.committed (without_holds (hold l) w gone) lines s' tx place place' stamp warp line v f
+              (read_let_go k first l.committed (hold l) lines s s' w gone g place stamp warp line v f r) moved
               (λ x d.
               newer
               (subst (λ z. key stamp warp ≤ key tx.stamp z) (sym warp_is)
@@ -412,14 +442,8 @@ module _ (k : Kind) (first : Lines) where
           Late : ℕ → Transaction → Type 0
           Late place t = Reads k first (l.committed ++ tx ∷ []) (hold (ends_here l w)) s' place t
 
-          holds : hold (ends_here l w) ≡ without_holds (hold l) w
-          holds = fun_ext (λ h. fun_ext (λ line. step h line (eqb h w)))
-            where
-              step :
-                  (h line : ℕ) (b : Bool)
-                  → hold_in (cond b None (l.current h)) line ≡ cond b None (hold_in (l.current h) line)
-              step h line true = refl
-              step h line false = refl
+          holds : hold (ends_here l w) ≡ without_holds (hold l) w gone
+          holds = nothing_left gone s' g all
 
           reads_more :
               (place place' : ℕ) (t : Transaction)
@@ -431,7 +455,7 @@ module _ (k : Kind) (first : Lines) where
           reads_more place place' t moved newer r =
               subst (λ H. Reads k first (l.committed ++ tx ∷ []) H s' place' t) (sym holds)
               (each_weaker (ReadNow k first l.committed (hold l) s place t.stamp t.warp)
-              (ReadNow k first (l.committed ++ tx ∷ []) (without_holds (hold l) w) s' place' t.stamp t.warp)
+              (ReadNow k first (l.committed ++ tx ∷ []) (without_holds (hold l) w gone) s' place' t.stamp t.warp)
               (λ line v f. later place place' t.stamp t.warp line v f moved newer) t.deeds r)
 
           one_more : length (l.committed ++ tx ∷ []) ≡ suc (length l.committed)
@@ -483,8 +507,8 @@ module _ (k : Kind) (first : Lines) where
                 core =
                     subst (λ H. Core k first (l.committed ++ tx ∷ []) H (written lines (stores_of tx.deeds)) s')
                     (sym holds)
-                    (core_more k first l.committed (without_holds (hold l) w) lines s' tx
-                    (core_let_go k first l.committed (hold l) lines s s' w g H.core) warp_low ready);
+                    (core_more k first l.committed (without_holds (hold l) w gone) lines s' tx
+                    (core_let_go k first l.committed (hold l) lines s s' w gone g H.core) warp_low ready);
                 past = past_now;
                 now = λ h t e. now_cases h t (current_cases l w None h t e);
                 here = λ h t e. here_cases h t (current_cases l w None h t e);

@@ -13,6 +13,8 @@ mod Moves
 mod Tries
 mod Calls
 pub mod AccountsLaw
+pub mod Explanation
+pub mod Fetches
 pub mod WaitsLaw
 pub mod TablesLaw
 pub mod ProductOrder

@@ -1,25 +1,25 @@
 -- Logs, rows and the queue, as lists.
-use Rattle.std.proofs.Common.{◌≡◌, ℕ, ◌<◌, Bool, true, false, cond, not, ◌||◌, eqb, List, [], ◌∷◌, ◌++◌, map, length, is_some, Some, None, fold, Option, sym, refl, ap, ◌∙◌, subst, ⊎_elim}
+use Rattle.std.proofs.Common.{◌≡◌, ℕ, ◌<◌, Bool, true, false, cond, not, ◌||◌, eqb, List, [], ◌∷◌, ◌++◌, length, is_some, Some, None, fold, Option, sym, refl, ap, ◌∙◌, subst, ⊎_elim}
 use Rattle.std.proofs.lemmas.List.{get_or-set_same, get_or-set_other, get_or_past, map-append}
 use Rattle.std.proofs.lemmas.List.Sums.{fold_push}
 use Rattle.std.proofs.lemmas.Bool.{both_ways, eqb-true, ne_eqb, cases_Bool, cases_lt, or_left}
 use Rattle.book.specs.Meaning.{Kind}
 use Rattle.rules.specs.declared.state.Phase.TheVariants.{Idle, Open, Waiting, Settled}
 use Rattle.rules.specs.declared.state.Request.{Request}
-use Rattle.rules.specs.Lists.{has, push_new, last_stored}
+use Rattle.rules.specs.Lists.{has, push_new}
+use Rattle.rules.specs.Logs.{LogEntry, last_stored, lines_in, logged_lines}
 use Rattle.rules.specs.State.{WarpRow, Machine, idle_at, is_idle, is_waiting, warp_row_of, with_warp_row}
 use Rattle.rules.specs.Queue.{request_of, without}
-use Rattle.rules.specs.Ending.{logged_lines}
 use Rattle.rules.specs.Transactions.{Deed, loaded, stored, own_store, writes, stores_of}
 use Rattle.rules.proofs.ListFacts.{eqb_same, has_append}
 
 -- The last value logged is the transaction's own.
 pub logged_own : (deeds : List Deed) (line : ℕ) → last_stored (stores_of deeds) line ≡ own_store deeds line
 logged_own [] line = refl
-logged_own (loaded n v f ∷ deeds) line = logged_own deeds line
-logged_own (stored n v ∷ deeds) line =
-    fold_push (λ found (s : ℕ × ℕ). cond (eqb s.0 line) (Some s.1) found) None (stores_of deeds) (n, v)
-    ∙ ap (λ o. cond (eqb n line) (Some v) o) (logged_own deeds line)
+logged_own (loaded d ∷ deeds) line = logged_own deeds line
+logged_own (stored s ∷ deeds) line =
+    fold_push (λ found (e : LogEntry). cond (eqb e.line line) (Some e.value) found) None (stores_of deeds) s
+    ∙ ap (λ o. cond (eqb s.line line) (Some s.value) o) (logged_own deeds line)
 
 -- The logged lines are those that the transaction stored to.
 has_push_new : (z : ℕ) (seen : List ℕ) (x : ℕ) → has z (push_new seen x) ≡ (has z seen || eqb x z)
@@ -57,18 +57,18 @@ has_distinct_from z (x ∷ xs) seen =
 
 pub has_logged : (deeds : List Deed) (line : ℕ) → has line (logged_lines (stores_of deeds)) ≡ writes deeds line
 has_logged deeds line =
-    has_distinct_from line (map (λ (s : ℕ × ℕ). s.0) (stores_of deeds)) [] ∙ in_map deeds
+    has_distinct_from line (lines_in (stores_of deeds)) [] ∙ in_log deeds
   where
-    in_map : (ds : List Deed) → has line (map (λ (s : ℕ × ℕ). s.0) (stores_of ds)) ≡ writes ds line
-    in_map [] = refl
-    in_map (loaded n v f ∷ ds) = in_map ds
-    in_map (stored n v ∷ ds) =
-        ap (has line) (map-append (λ (s : ℕ × ℕ). s.0) (stores_of ds) ((n, v) ∷ []))
-        ∙ has_append line (map (λ (s : ℕ × ℕ). s.0) (stores_of ds)) (n ∷ [])
-        ∙ ap (λ b. b || (eqb n line || false)) (in_map ds)
-        ∙ step (eqb n line) (own_store ds line)
+    in_log : (ds : List Deed) → has line (lines_in (stores_of ds)) ≡ writes ds line
+    in_log [] = refl
+    in_log (loaded d ∷ ds) = in_log ds
+    in_log (stored s ∷ ds) =
+        ap (has line) (map-append (λ (e : LogEntry). e.line) (stores_of ds) (s ∷ []))
+        ∙ has_append line (lines_in (stores_of ds)) (s.line ∷ [])
+        ∙ ap (λ b. b || (eqb s.line line || false)) (in_log ds)
+        ∙ step (eqb s.line line) (own_store ds line)
       where
-        step : (b : Bool) (o : Option ℕ) → (is_some o || (b || false)) ≡ is_some (cond b (Some v) o)
+        step : (b : Bool) (o : Option ℕ) → (is_some o || (b || false)) ≡ is_some (cond b (Some s.value) o)
         step true None = refl
         step true (Some u) = refl
         step false None = refl
@@ -76,10 +76,12 @@ has_logged deeds line =
 
 module _ {k : Kind} (m : Machine k) (w : ℕ) where
   -- A row that is put is there, and the others are as they were.
-  pub warp_row_put : (warp_row : WarpRow) → w < length m.warp_rows → warp_row_of (with_warp_row m w warp_row) w ≡ warp_row
+  pub warp_row_put :
+      (warp_row : WarpRow) → w < length m.warp_rows → warp_row_of (with_warp_row m w warp_row) w ≡ warp_row
   warp_row_put warp_row low = get_or-set_same m.warp_rows w warp_row (idle_at 0) low
 
-  pub warp_row_kept : (warp_row : WarpRow) (v : ℕ) → (v ≡ w → ⊥) → warp_row_of (with_warp_row m w warp_row) v ≡ warp_row_of m v
+  pub warp_row_kept :
+      (warp_row : WarpRow) (v : ℕ) → (v ≡ w → ⊥) → warp_row_of (with_warp_row m w warp_row) v ≡ warp_row_of m v
   warp_row_kept warp_row v n = get_or-set_other m.warp_rows w v warp_row (idle_at 0) n
 
   -- A warp that is not idle is one of the machine's.

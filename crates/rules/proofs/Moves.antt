@@ -1,5 +1,5 @@
 -- Each small move of the machine keeps the invariant of a run.
-use Rattle.std.proofs.Common.{◌≡◌, ℕ, suc, ◌<◌, ◌≤◌, Bool, true, false, cond, ◌&&◌, eqb, ltb, ◌⊎◌, [], ◌∷◌, ◌++◌, length, get_or, set, is_some, Some, None, fold, Option, unwrap_or, sym, refl, ap, ◌∙◌, subst, inl, inr, ⊎_elim, arith, length-set}
+use Rattle.std.proofs.Common.{◌≡◌, ℕ, suc, ◌<◌, ◌≤◌, Bool, true, false, cond, ◌&&◌, eqb, ltb, ◌⊎◌, List, [], ◌∷◌, ◌++◌, length, get_or, set, is_some, Some, None, fold, Option, unwrap_or, sym, refl, ap, ◌∙◌, subst, inl, inr, ⊎_elim, arith, length-set}
 use Rattle.std.proofs.lemmas.Bool.{ne_eqb, and_from, not_from_false, lt-ltb, both_ways, cases_eq}
 use Rattle.protocol.specs.Limits.{line_limit, log_limit, last_stamp}
 use Rattle.protocol.specs.declared.answer.Outcome.{Outcome}
@@ -10,21 +10,23 @@ use Rattle.rules.specs.declared.state.Access.{Access}
 use Rattle.rules.specs.declared.state.Access.TheVariants.{Read, Write}
 use Rattle.rules.specs.declared.state.Phase.{Phase}
 use Rattle.rules.specs.declared.state.Phase.TheVariants.{Idle, Open, Waiting, Settled}
-use Rattle.rules.specs.Lists.{has, last_stored}
-use Rattle.rules.specs.State.{WarpRow, Machine, idle_at, is_idle, is_waiting, in_phase, logging, warp_row_of, time_of}
-use Rattle.rules.specs.State.{with_book, with_warp_row}
+use Rattle.rules.specs.Lists.{has}
+use Rattle.rules.specs.Logs.{entry, last_stored, logged_lines}
+use Rattle.rules.specs.State.{WarpRow, Machine, idle_at, open_at, is_idle, is_waiting, in_phase, logging, warp_row_of, time_of}
+use Rattle.rules.specs.State.{with_lines, with_book, with_warp_row}
 use Rattle.rules.specs.Access.{told}
 use Rattle.rules.specs.Serving.{serves, serves_own, memory_value}
-use Rattle.rules.specs.Ending.{with_outcome, settles, lets_go, logged_lines}
+use Rattle.rules.specs.Ending.{withdraws, settles, lets_go}
 use Rattle.rules.specs.Steps.{waits, writes_back, written}
-use Rattle.rules.specs.Transactions.{loaded, stored, Transaction, own_store, writes, stores_of}
-use Rattle.rules.specs.Ledger.{Ledger, load_found, begins, ends_here, commits, comes_as}
-use Rattle.rules.proofs.History.{LetGo}
+use Rattle.rules.specs.Transactions.{loaded, stored, load_deed, Transaction, own_store, writes, stores_of}
+use Rattle.rules.specs.Transactions.{times_stored}
+use Rattle.rules.specs.Ledger.{Ledger, load_found, with_current, begins, ends_here, commits, comes_as}
+use Rattle.rules.proofs.History.{Holding, LetGo, without_holds}
 use Rattle.rules.proofs.Ledgers.{hold_in, hold, hold_writes, History, begun, ended, load_own, load_other, store_own}
-use Rattle.rules.proofs.Ledgers.{store_new, committed}
+use Rattle.rules.proofs.Ledgers.{store_new, nothing_left, committed}
 use Rattle.rules.proofs.BookMoves.{after_note, after_add, after_take, Freed, after_release}
-use Rattle.rules.proofs.Tallies.{never_stored, once_stored, stored_at_most, tally_load, tally_store, tally_end}
-use Rattle.rules.proofs.Tallies.{tally_begin}
+use Rattle.rules.proofs.Tallies.{never_stored, once_stored, stored_at_most, Tallied, tally_load, tally_store}
+use Rattle.rules.proofs.Tallies.{tally_let_go, tally_begin}
 use Rattle.rules.proofs.Verdicts.{Goes, Stalls}
 use Rattle.rules.proofs.Logs.{logged_own, has_logged, warp_row_put, warp_row_kept, request_push, request_mine, request_left}
 use Rattle.rules.proofs.Logs.{request_gone}
@@ -66,27 +68,30 @@ module _
       same_time s e = λ i. (sym e i, sym (warp_is k first keeps E m l I w tx mine) i)
 
       -- A row that logs one store more keeps its phase and its stamp.
-      logs_phase :
-          (line v u : ℕ)
-          → (get_or (set m.warp_rows w (logging (warp_row_of m w) line v)) u (idle_at 0)).phase ≡ (warp_row_of m u).phase
+      abbrev after_log : ℕ → ℕ → ℕ → WarpRow
+      after_log line v u = get_or (set m.warp_rows w (logging (warp_row_of m w) line v)) u (idle_at 0)
+
+      logs_phase : (line v u : ℕ) → (after_log line v u).phase ≡ (warp_row_of m u).phase
       logs_phase line v u =
           ⊎_elim
           (λ e.
           subst
-          (λ x. (get_or (set m.warp_rows w (logging (warp_row_of m w) line v)) x (idle_at 0)).phase ≡ (warp_row_of m x).phase)
-          (sym e) (ap (λ (warp_row : WarpRow). warp_row.phase) (warp_row_put m w (logging (warp_row_of m w) line v) inside)))
+          (λ x. (after_log line v x).phase ≡ (warp_row_of m x).phase)
+          (sym e)
+          (ap (λ (warp_row : WarpRow). warp_row.phase)
+          (warp_row_put m w (logging (warp_row_of m w) line v) inside)))
           (λ n. ap (λ (warp_row : WarpRow). warp_row.phase) (warp_row_kept m w (logging (warp_row_of m w) line v) u n))
           (cases_eq u w)
 
-      logs_stamp :
-          (line v u : ℕ)
-          → (get_or (set m.warp_rows w (logging (warp_row_of m w) line v)) u (idle_at 0)).stamp ≡ (warp_row_of m u).stamp
+      logs_stamp : (line v u : ℕ) → (after_log line v u).stamp ≡ (warp_row_of m u).stamp
       logs_stamp line v u =
           ⊎_elim
           (λ e.
           subst
-          (λ x. (get_or (set m.warp_rows w (logging (warp_row_of m w) line v)) x (idle_at 0)).stamp ≡ (warp_row_of m x).stamp)
-          (sym e) (ap (λ (warp_row : WarpRow). warp_row.stamp) (warp_row_put m w (logging (warp_row_of m w) line v) inside)))
+          (λ x. (after_log line v x).stamp ≡ (warp_row_of m x).stamp)
+          (sym e)
+          (ap (λ (warp_row : WarpRow). warp_row.stamp)
+          (warp_row_put m w (logging (warp_row_of m w) line v) inside)))
           (λ n. ap (λ (warp_row : WarpRow). warp_row.stamp) (warp_row_kept m w (logging (warp_row_of m w) line v) u n))
           (cases_eq u w)
 
@@ -97,12 +102,10 @@ module _
       wrote value n x false = x
 
       logs_log :
-          (line v : ℕ)
-          → (get_or (set m.warp_rows w (logging (warp_row_of m w) line v)) w (idle_at 0)).log
-          ≡ stores_of tx.deeds ++ (line, v) ∷ []
+          (line v : ℕ) → (after_log line v w).log ≡ stores_of tx.deeds ++ entry line v ∷ []
       logs_log line v =
           ap (λ (warp_row : WarpRow). warp_row.log) (warp_row_put m w (logging (warp_row_of m w) line v) inside)
-          ∙ ap (λ log. log ++ (line, v) ∷ []) R.same_log
+          ∙ ap (λ log. log ++ entry line v ∷ []) R.same_log
 
       module _ (line : ℕ) (low : line < line_limit) (there : is_some (first line) ≡ true) where
         in_memory : is_some (m.lines line) ≡ true
@@ -153,7 +156,7 @@ module _
             let note = after_note k keeps m.book I.good line (warp_row_of m w).stamp w low R.in_clock low_w in
             does k first keeps E m l I w tx mine
             (with_book m (noted k m.book line (time_of m w)))
-            (λ t. loaded line (memory_value m line) (load_found l.committed t line)) note.good
+            (λ t. loaded (load_deed line (memory_value m line) (load_found l.committed t line))) note.good
             (load_other k first l m.lines m.book I.history w tx mine
             (noted k m.book line (time_of m w)) note.grown line (memory_value m line)
             (not_own go.nobody) (some_value (m.lines line) in_memory) low go.nobody
@@ -162,7 +165,7 @@ module _
             (same_time (warp_row_of m w).stamp R.same_stamp) note.reaches))
             refl refl (λ v. refl) (λ v. refl) (λ v n. refl) (λ n x. x) R.same_log
             (tally_load k first m.lines l m.book (noted k m.book line (time_of m w)) I.history I.tallied
-            note.counts w (λ t. loaded line (memory_value m line) (load_found l.committed t line))
+            note.counts w (λ t. loaded (load_deed line (memory_value m line) (load_found l.committed t line)))
             (λ t n. refl) (λ t n. refl) tx mine)
         serves_keeps (Write value) go =
             let take =
@@ -171,7 +174,7 @@ module _
             in
             does k first keeps E m l I w tx mine
             (with_warp_row (with_book m (taken k m.book line (time_of m w))) w (logging (warp_row_of m w) line value))
-            (λ t. stored line value) take.good
+            (λ t. stored (entry line value)) take.good
             (store_new k first l m.lines m.book I.history w tx mine
             (taken k m.book line (time_of m w)) line value
             (subst
@@ -200,8 +203,9 @@ module _
             does k first keeps E m l I w tx mine
             (with_book m (noted k m.book line (time_of m w)))
             (λ t.
-            loaded line (unwrap_or (last_stored (warp_row_of m w).log line) (memory_value m line))
-            (load_found l.committed t line))
+            loaded
+            (load_deed line (unwrap_or (last_stored (warp_row_of m w).log line) (memory_value m line))
+            (load_found l.committed t line)))
             note.good
             (load_own k first l m.lines m.book I.history w tx mine
             (noted k m.book line (time_of m w)) note.grown line
@@ -215,8 +219,9 @@ module _
             (tally_load k first m.lines l m.book (noted k m.book line (time_of m w)) I.history I.tallied
             note.counts w
             (λ t.
-            loaded line (unwrap_or (last_stored (warp_row_of m w).log line) (memory_value m line))
-            (load_found l.committed t line))
+            loaded
+            (load_deed line (unwrap_or (last_stored (warp_row_of m w).log line) (memory_value m line))
+            (load_found l.committed t line)))
             (λ t n. refl) (λ t n. refl) tx mine)
         serves_own_keeps (Write value) room owned =
             let u = own_value owned in
@@ -239,7 +244,7 @@ module _
             let add = after_add k keeps m.book I.good line can in
             does k first keeps E m l I w tx mine
             (with_warp_row (with_book m (added k m.book line)) w (logging (warp_row_of m w) line value))
-            (λ t. stored line value) add.good
+            (λ t. stored (entry line value)) add.good
             (store_own k first l m.lines m.book I.history w tx mine (added k m.book line) add.grown line
             value u.0 u.1)
             (length-set m.warp_rows w (logging (warp_row_of m w) line value)) refl
@@ -286,200 +291,220 @@ module _
             (subst (λ (warp_row : WarpRow). is_waiting warp_row.phase ≡ false) put_warp_row p) refl)) I.tallied
           where
             put_warp_row :
-                get_or (set m.warp_rows w (in_phase (warp_row_of m w) Waiting)) w (idle_at 0) ≡ in_phase (warp_row_of m w) Waiting
+                get_or (set m.warp_rows w (in_phase (warp_row_of m w) Waiting)) w (idle_at 0)
+                ≡ in_phase (warp_row_of m w) Waiting
             put_warp_row = warp_row_put m w (in_phase (warp_row_of m w) Waiting) inside
 
-      -- A request comes out, and leaves the queue.
-      pub settles_keeps :
-          (E' : ℕ → ℕ → Type 0) (outcome : Outcome) → ((v line : ℕ) → (v ≡ w → ⊥) → E v line → E' v line)
-          → Inv k first E' (settles m w outcome) l
-      unfolding settles
-      settles_keeps E' outcome to =
-          one_warp_row k first E E' m (settles m w outcome) l l w I I.good I.history
-          (length-set m.warp_rows w (with_outcome (warp_row_of m w) outcome))
-          (λ v n. warp_row_kept m w (with_outcome (warp_row_of m w) outcome) v n) (λ v n. refl)
-          (λ v n. request_left m.queue w v n)
-          (λ v line t n b. ⊎_elim (λ e. inl (to v line n e)) inr b)
-          (subst (λ warp_row. Matches warp_row (l.current w)) (sym put_warp_row)
-          (subst (Matches (with_outcome (warp_row_of m w) outcome)) (sym mine)
-          (record {
-            busy = refl;
-            same_stamp = R.same_stamp;
-            same_log = R.same_log;
-            in_clock = R.in_clock;
-          })))
-          (λ p.
-          absurd
-          (both_ways false refl (subst (λ (warp_row : WarpRow). is_waiting warp_row.phase ≡ true) put_warp_row p)))
-          (λ p. request_gone m.queue w) I.tallied
-        where
-          put_warp_row :
-              get_or (set m.warp_rows w (with_outcome (warp_row_of m w) outcome)) w (idle_at 0)
-              ≡ with_outcome (warp_row_of m w) outcome
-          put_warp_row = warp_row_put m w (with_outcome (warp_row_of m w) outcome) inside
+      -- A warp that does not wait goes on to do something else, with its transaction, without waiting.
+      module _ (p : Phase) (busy : is_idle p ≡ false) (still : is_waiting p ≡ false) where
+        put_phase :
+            get_or (set m.warp_rows w (in_phase (warp_row_of m w) p)) w (idle_at 0) ≡ in_phase (warp_row_of m w) p
+        put_phase = warp_row_put m w (in_phase (warp_row_of m w) p) inside
 
-      -- A fetched value or store: the warp goes on.
-      pub reopened_keeps :
-          is_waiting (warp_row_of m w).phase ≡ false
-          → Inv k first E (with_warp_row m w (in_phase (warp_row_of m w) Open)) l
-      reopened_keeps calm =
-          one_warp_row k first E E m (with_warp_row m w (in_phase (warp_row_of m w) Open)) l l w I I.good I.history
-          (length-set m.warp_rows w (in_phase (warp_row_of m w) Open))
-          (λ v n. warp_row_kept m w (in_phase (warp_row_of m w) Open) v n) (λ v n. refl) (λ v n. refl)
-          (λ v line t n b. b)
-          (subst (λ warp_row. Matches warp_row (l.current w)) (sym put_warp_row)
-          (subst (Matches (in_phase (warp_row_of m w) Open)) (sym mine)
-          (record {
-            busy = refl;
-            same_stamp = R.same_stamp;
-            same_log = R.same_log;
-            in_clock = R.in_clock;
-          })))
-          (λ p.
-          absurd
-          (both_ways false refl (subst (λ (warp_row : WarpRow). is_waiting warp_row.phase ≡ true) put_warp_row p)))
-          (λ p. I.quiet w calm) I.tallied
-        where
-          put_warp_row :
-              get_or (set m.warp_rows w (in_phase (warp_row_of m w) Open)) w (idle_at 0) ≡ in_phase (warp_row_of m w) Open
-          put_warp_row = warp_row_put m w (in_phase (warp_row_of m w) Open) inside
+        its_phase :
+            Matches (get_or (set m.warp_rows w (in_phase (warp_row_of m w) p)) w (idle_at 0)) (l.current w)
+        its_phase =
+            subst (λ warp_row. Matches warp_row (l.current w)) (sym put_phase)
+            (subst (Matches (in_phase (warp_row_of m w) p)) (sym mine)
+            (record {
+              busy = busy;
+              same_stamp = R.same_stamp;
+              same_log = R.same_log;
+              in_clock = R.in_clock;
+            }))
 
-      -- The lines of the transaction are its logged ones.
-      abbrev pub ItsLines : ℕ → Type 0
-      ItsLines line = has line (logged_lines (warp_row_of m w).log) ≡ true
+        never_waits :
+            is_waiting (get_or (set m.warp_rows w (in_phase (warp_row_of m w) p)) w (idle_at 0)).phase ≡ true → ⊥
+        never_waits q =
+            both_ways (is_waiting p) still
+            (subst (λ (warp_row : WarpRow). is_waiting warp_row.phase ≡ true) put_phase q)
 
-      logged_writes : (line : ℕ) → has line (logged_lines (warp_row_of m w).log) ≡ writes tx.deeds line
+        pub phase_keeps :
+            is_waiting (warp_row_of m w).phase ≡ false
+            → Inv k first E (with_warp_row m w (in_phase (warp_row_of m w) p)) l
+        phase_keeps calm =
+            one_warp_row k first E E m (with_warp_row m w (in_phase (warp_row_of m w) p)) l l w I I.good I.history
+            (length-set m.warp_rows w (in_phase (warp_row_of m w) p))
+            (λ v n. warp_row_kept m w (in_phase (warp_row_of m w) p) v n) (λ v n. refl) (λ v n. refl)
+            (λ v line t n b. b) its_phase (λ q. absurd (never_waits q)) (λ q. I.quiet w calm) I.tallied
+
+      -- A request is withdrawn: it leaves the queue, and its warp is open.
+      module _ (E' : ℕ → ℕ → Type 0) (to : (v line : ℕ) → (v ≡ w → ⊥) → E v line → E' v line) where
+        pub withdraws_keeps : Inv k first E' (withdraws m w) l
+        unfolding withdraws
+        withdraws_keeps =
+            one_warp_row k first E E' m (withdraws m w) l l w I I.good I.history
+            (length-set m.warp_rows w (in_phase (warp_row_of m w) Open))
+            (λ v n. warp_row_kept m w (in_phase (warp_row_of m w) Open) v n) (λ v n. refl)
+            (λ v n. request_left m.queue w v n) (λ v line t n b. ⊎_elim (λ e. inl (to v line n e)) inr b)
+            (its_phase Open refl refl) (λ q. absurd (never_waits Open refl refl q)) (λ q. request_gone m.queue w)
+            I.tallied
+
+      pub withdrawn_calm : is_waiting (warp_row_of (withdraws m w) w).phase ≡ false
+      unfolding withdraws
+      withdrawn_calm = ap (λ (warp_row : WarpRow). is_waiting warp_row.phase) (put_phase Open refl refl)
+
+      abbrev pub freed_book : List ℕ → k.State
+      freed_book gone = fold (released k) m.book gone
+
+      -- Lines that the transaction stored to are released, and its row becomes another.
+      module _ (gone : List ℕ) (its : (line : ℕ) → has line gone ≡ true → writes tx.deeds line ≡ true) where
+        freed : Freed k keeps m.book (freed_book gone) gone
+        freed = after_release k keeps m.book I.good gone
+
+        was_held : (line : ℕ) → has line gone ≡ true → (t : ℕ) × (hold l w line ≡ Some t)
+        was_held line h = (tx.stamp, ap (λ o. hold_in o line) mine ∙ hold_writes tx line (its line h))
+
+        pub lets : LetGo k (hold l) m.book (freed_book gone) w gone
+        lets =
+            record {
+              its = was_held;
+              stamps = freed.stamps;
+              marks = freed.marks;
+              released = freed.released_ones;
+              others = freed.others;
+            }
+
+        pub left_tallied :
+            (o : Option Transaction)
+            → ((t : Transaction) → o ≡ Some t → (line : ℕ) → writes t.deeds line ≡ true
+            → k.stores (freed_book gone) line ≡ times_stored t.deeds line)
+            → Tallied k (with_current l w o) (freed_book gone)
+        left_tallied o =
+            tally_let_go k first m.lines l m.book (freed_book gone) I.history I.tallied w gone o was_held freed.counts
+
+        -- The warp holds what it held but these lines, and the others hold what they held. Whoever is blocked by one of
+        -- these lines is exempt until it is tried.
+        module _ (l' : Ledger) (holds : hold l' ≡ without_holds (hold l) w gone) where
+          still_blocked :
+              (v line t : ℕ) → E v line ⊎ Blocked l line t
+              → (E v line ⊎ (has line gone ≡ true)) ⊎ Blocked l' line t
+          still_blocked v line t (inl e) = inl (inl e)
+          still_blocked v line t (inr b) = step (has line gone) refl
+            where
+              flat : (c : Bool) → (c && false) ≡ false
+              flat true = refl
+              flat false = refl
+
+              step : (c : Bool) → has line gone ≡ c → (E v line ⊎ (has line gone ≡ true)) ⊎ Blocked l' line t
+              step true q = inl (inr q)
+              step false q =
+                  inr
+                  (record {
+                    by_warp = b.by_warp;
+                    at_stamp = b.at_stamp;
+                    is_held =
+                        ap (λ (H : Holding). H b.by_warp line) holds
+                        ∙ ap (λ c. cond c None (hold l b.by_warp line))
+                        (ap (λ c. eqb b.by_warp w && c) q ∙ flat (eqb b.by_warp w))
+                        ∙ b.is_held;
+                    falls = b.falls;
+                  })
+
+          pub lets_go_keeps :
+              (ls : Lines) (warp_row : WarpRow) → is_waiting (warp_row_of m w).phase ≡ false
+              → is_waiting warp_row.phase ≡ false → Matches warp_row (l'.current w)
+              → ((v : ℕ) → (v ≡ w → ⊥) → l'.current v ≡ l.current v)
+              → History k first l' ls (freed_book gone) → Tallied k l' (freed_book gone)
+              → Inv k first (λ v line. E v line ⊎ (has line gone ≡ true))
+              (lets_go (with_lines m ls) w warp_row gone) l'
+          unfolding lets_go
+          lets_go_keeps ls warp_row calm still match others history tallied =
+              one_warp_row k first E (λ v line. E v line ⊎ (has line gone ≡ true)) m
+              (lets_go (with_lines m ls) w warp_row gone) l l' w I freed.good history
+              (length-set m.warp_rows w warp_row) (λ v n. warp_row_kept m w warp_row v n) others (λ v n. refl)
+              (λ v line t n b. still_blocked v line t b)
+              (subst (λ r. Matches r (l'.current w)) (sym put_row) match)
+              (λ p.
+              absurd
+              (both_ways (is_waiting warp_row.phase) still
+              (subst (λ (r : WarpRow). is_waiting r.phase ≡ true) put_row p)))
+              (λ p. I.quiet w calm) tallied
+            where
+              put_row : get_or (set m.warp_rows w warp_row) w (idle_at 0) ≡ warp_row
+              put_row = warp_row_put m w warp_row inside
+
+      -- The transaction ends, without and with a commit: it lets go of the lines that its log stores to.
+      abbrev pub its_lines : List ℕ
+      its_lines = logged_lines (warp_row_of m w).log
+
+      logged_writes : (line : ℕ) → has line its_lines ≡ writes tx.deeds line
       logged_writes line = ap (λ log. has line (logged_lines log)) R.same_log ∙ has_logged tx.deeds line
 
-      abbrev freed_book : k.State
-      freed_book = fold (released k) m.book (logged_lines (warp_row_of m w).log)
+      writes_logged : (line : ℕ) → has line its_lines ≡ true → writes tx.deeds line ≡ true
+      writes_logged line h = sym (logged_writes line) ∙ h
 
-      freed : Freed k keeps m.book freed_book (logged_lines (warp_row_of m w).log)
-      freed = after_release k keeps m.book I.good (logged_lines (warp_row_of m w).log)
+      all_logged : (line t : ℕ) → hold l w line ≡ Some t → has line its_lines ≡ true
+      all_logged line t e =
+          let q = holds_line k first l w line t e in
+          let again = q.1 in
+          let one : q.0 ≡ tx = cc in
+          logged_writes line ∙ subst (λ (u : Transaction). writes u.deeds line ≡ true) one q.2
 
-      lets : LetGo k (hold l) m.book freed_book w
-      lets =
-          record {
-            stamps = freed.stamps;
-            marks = freed.marks;
-            released =
-                λ line t low e.
-                let q = holds_line k first l w line t e in
-                let again = q.1 in
-                let one : q.0 ≡ tx = cc in
-                freed.released_ones line low
-                (logged_writes line
-                ∙ subst (λ (u : Transaction). writes u.deeds line ≡ true) one q.2);
-            others =
-                λ line low e.
-                freed.others line low (logged_writes line ∙ unwritten line (writes tx.deeds line) refl e);
-          }
-        where
-          unwritten : (line : ℕ) (b : Bool) → writes tx.deeds line ≡ b → hold l w line ≡ None → b ≡ false
-          unwritten line true p e =
-              let h : hold l w line ≡ Some tx.stamp = ap (λ o. hold_in o line) mine ∙ hold_writes tx line p in
-              cc
-          unwritten line false p e = refl
+      all_let_go : LetGo k (hold l) m.book (freed_book its_lines) w its_lines
+      all_let_go = lets its_lines writes_logged
 
-      -- Whoever is blocked by another warp stays so; whoever is blocked by this one is exempt until it is tried.
-      still_blocked :
-          (v line t : ℕ) → E v line ⊎ Blocked l line t
-          → (E v line ⊎ ItsLines line) ⊎ Blocked (ends_here l w) line t
-      still_blocked v line t (inl e) = inl (inl e)
-      still_blocked v line t (inr b) = step (cases_eq b.by_warp w)
-        where
-          step :
-              (b.by_warp ≡ w) ⊎ (b.by_warp ≡ w → ⊥)
-              → (E v line ⊎ ItsLines line) ⊎ Blocked (ends_here l w) line t
-          step (inl e) =
-              let q = holds_line k first l b.by_warp line b.at_stamp b.is_held in
-              let again : l.current w ≡ Some q.0 = ap l.current (sym e) ∙ q.1 in
-              let one : q.0 ≡ tx = cc in
-              inl (inr (logged_writes line ∙ subst (λ (u : Transaction). writes u.deeds line ≡ true) one q.2))
-          step (inr n) =
-              inr
-              (record {
-                by_warp = b.by_warp;
-                at_stamp = b.at_stamp;
-                is_held =
-                    ap (λ o. hold_in o line) (current_other k first l w None b.by_warp n) ∙ b.is_held;
-                falls = b.falls;
-              })
+      none_left : hold (ends_here l w) ≡ without_holds (hold l) w its_lines
+      none_left =
+          nothing_left k first l m.lines m.book I.history w its_lines (freed_book its_lines) all_let_go
+          all_logged
 
-      -- The transaction ends, without and with a commit.
-      module _ (stamp : ℕ) where
-        put_idle : get_or (set m.warp_rows w (idle_at stamp)) w (idle_at 0) ≡ idle_at stamp
-        put_idle = warp_row_put m w (idle_at stamp) inside
+      module _ (stamp : ℕ) (calm : is_waiting (warp_row_of m w).phase ≡ false) where
+        all_gone :
+            (l' : Ledger) → hold l' ≡ without_holds (hold l) w its_lines → l'.current w ≡ None
+            → ((v : ℕ) → (v ≡ w → ⊥) → l'.current v ≡ l.current v) → (ls : Lines)
+            → History k first l' ls (freed_book its_lines)
+            → Tallied k l' (freed_book its_lines)
+            → Inv k first (λ v line. E v line ⊎ (has line its_lines ≡ true))
+            (lets_go (with_lines m ls) w (idle_at stamp) its_lines) l'
+        all_gone l' holds none others ls history tallied =
+            lets_go_keeps its_lines writes_logged l' holds ls (idle_at stamp) calm refl
+            (subst (Matches (idle_at stamp)) (sym none) refl) others history tallied
 
-        idle_now :
-            (l' : Ledger) → l'.current w ≡ None
-            → Matches (get_or (set m.warp_rows w (idle_at stamp)) w (idle_at 0)) (l'.current w)
-        idle_now l' e =
-            subst (λ warp_row. Matches warp_row (l'.current w)) (sym put_idle)
-            (subst (Matches (idle_at stamp)) (sym e) refl)
-
-        not_waiting : is_waiting (get_or (set m.warp_rows w (idle_at stamp)) w (idle_at 0)).phase ≡ true → ⊥
-        not_waiting p =
-            both_ways false refl (subst (λ (warp_row : WarpRow). is_waiting warp_row.phase ≡ true) put_idle p)
+        none_tallied : Tallied k (ends_here l w) (freed_book its_lines)
+        none_tallied =
+            left_tallied its_lines writes_logged None
+            (λ t e line x. let z : ◌≡◌ {A = ℕ} 0 1 = cc in absurd (omega arith))
 
         pub ends_keep :
-            is_waiting (warp_row_of m w).phase ≡ false
-            → Inv k first (λ v line. E v line ⊎ ItsLines line) (lets_go m w stamp) (ends_here l w)
-        unfolding lets_go
-        ends_keep calm =
-            one_warp_row k first E (λ v line. E v line ⊎ ItsLines line) m (lets_go m w stamp) l (ends_here l w) w I
-            freed.good
-            (ended k first l m.lines m.book I.history w freed_book lets)
-            (length-set m.warp_rows w (idle_at stamp)) (λ v n. warp_row_kept m w (idle_at stamp) v n)
-            (λ v n. current_other k first l w None v n) (λ v n. refl)
-            (λ v line t n b. still_blocked v line t b)
-            (idle_now (ends_here l w) (current_mine k first l w None))
-            (λ p. absurd (not_waiting p)) (λ p. I.quiet w calm)
-            (tally_end k first m.lines l m.book freed_book I.history I.tallied w tx mine
-            (λ line low x. freed.counts line low (logged_writes line ∙ x)))
+            Inv k first (λ v line. E v line ⊎ (has line its_lines ≡ true)) (lets_go m w (idle_at stamp) its_lines)
+            (ends_here l w)
+        ends_keep =
+            all_gone (ends_here l w) none_left (current_mine k first l w None)
+            (λ v n. current_other k first l w None v n) m.lines
+            (ended k first l m.lines m.book I.history w its_lines (freed_book its_lines) all_let_go
+            all_logged)
+            none_tallied
 
         pub commits_keep :
-            is_waiting (warp_row_of m w).phase ≡ false
-            → Inv k first (λ v line. E v line ⊎ ItsLines line) (lets_go (writes_back m w) w stamp) (commits l w)
-        unfolding lets_go
-        commits_keep calm =
-            one_warp_row k first E (λ v line. E v line ⊎ ItsLines line) m (lets_go (writes_back m w) w stamp) l
-            (commits l w) w I freed.good
-            (subst (λ log. History k first (commits l w) (written m.lines log) freed_book) (sym R.same_log)
-            (committed k first l m.lines m.book I.history w tx mine freed_book lets))
-            (length-set m.warp_rows w (idle_at stamp)) (λ v n. warp_row_kept m w (idle_at stamp) v n)
-            (λ v n. current_other k first l w None v n) (λ v n. refl)
-            (λ v line t n b. same_holds v line t (still_blocked v line t b))
-            (idle_now (commits l w) (current_mine k first l w None))
-            (λ p. absurd (not_waiting p)) (λ p. I.quiet w calm)
-            (tally_end k first m.lines l m.book freed_book I.history I.tallied w tx mine
-            (λ line low x. freed.counts line low (logged_writes line ∙ x)))
-          where
-            same_holds :
-                (v line t : ℕ) → (E v line ⊎ ItsLines line) ⊎ Blocked (ends_here l w) line t
-                → (E v line ⊎ ItsLines line) ⊎ Blocked (commits l w) line t
-            same_holds v line t (inl e) = inl e
-            same_holds v line t (inr b) =
-                inr
-                (record
-                { by_warp = b.by_warp; at_stamp = b.at_stamp; is_held = b.is_held; falls = b.falls })
+            Inv k first (λ v line. E v line ⊎ (has line its_lines ≡ true))
+            (lets_go (writes_back m w) w (idle_at stamp) its_lines) (commits l w)
+        commits_keep =
+            all_gone (commits l w) none_left (current_mine k first l w None)
+            (λ v n. current_other k first l w None v n) (written m.lines (warp_row_of m w).log)
+            (subst
+            (λ log. History k first (commits l w) (written m.lines log) (freed_book its_lines))
+            (sym R.same_log)
+            (committed k first l m.lines m.book I.history w tx mine its_lines (freed_book its_lines)
+            all_let_go all_logged))
+            none_tallied
 
     -- A transaction begins.
     pub begin_keeps :
         w < length m.warp_rows → is_idle (warp_row_of m w).phase ≡ true → (warp_row_of m w).stamp ≤ last_stamp
-        → Inv k first E (with_warp_row m w (record { phase = Open; stamp = (warp_row_of m w).stamp; log = [] }))
+        → Inv k first E (with_warp_row m w (open_at (warp_row_of m w).stamp))
         (begins l w (warp_row_of m w).stamp)
     begin_keeps low idle clock =
-        one_warp_row k first E E m (with_warp_row m w (record { phase = Open; stamp = (warp_row_of m w).stamp; log = [] })) l
+        one_warp_row k first E E m (with_warp_row m w (open_at (warp_row_of m w).stamp)) l
         (begins l w (warp_row_of m w).stamp) w I I.good
         (begun k first l m.lines m.book I.history w none (let a = I.size in omega arith)
         (warp_row_of m w).stamp)
-        (length-set m.warp_rows w (record { phase = Open; stamp = (warp_row_of m w).stamp; log = [] }))
-        (λ v n. warp_row_kept m w (record { phase = Open; stamp = (warp_row_of m w).stamp; log = [] }) v n)
+        (length-set m.warp_rows w (open_at (warp_row_of m w).stamp))
+        (λ v n. warp_row_kept m w (open_at (warp_row_of m w).stamp) v n)
         (λ v n. current_other k first l w (Some new) v n) (λ v n. refl)
         (λ v line t n b. kept v line t b)
         (subst (λ warp_row. Matches warp_row ((begins l w (warp_row_of m w).stamp).current w)) (sym put_warp_row)
-        (subst (Matches (record { phase = Open; stamp = (warp_row_of m w).stamp; log = [] }))
+        (subst (Matches (open_at (warp_row_of m w).stamp))
         (sym (current_mine k first l w (Some new)))
         (record { busy = refl; same_stamp = refl; same_log = refl; in_clock = clock })))
         (λ p.
@@ -492,9 +517,9 @@ module _
         new = record { stamp = (warp_row_of m w).stamp; warp = w; deeds = [] }
 
         put_warp_row :
-            get_or (set m.warp_rows w (record { phase = Open; stamp = (warp_row_of m w).stamp; log = [] })) w (idle_at 0)
-            ≡ record { phase = Open; stamp = (warp_row_of m w).stamp; log = [] }
-        put_warp_row = warp_row_put m w (record { phase = Open; stamp = (warp_row_of m w).stamp; log = [] }) low
+            get_or (set m.warp_rows w (open_at (warp_row_of m w).stamp)) w (idle_at 0)
+            ≡ open_at (warp_row_of m w).stamp
+        put_warp_row = warp_row_put m w (open_at (warp_row_of m w).stamp) low
 
         none : l.current w ≡ None
         none = step (l.current w) (I.warp_rows w)
@@ -529,3 +554,14 @@ module _
                   ∙ b.is_held;
               falls = b.falls;
             })
+
+-- A request comes out: it is withdrawn, and its warp has an outcome to fetch.
+pub settles_keeps :
+    (k : Kind) (first : Lines) (keeps : Keeps k) (E : ℕ → ℕ → Type 0) (m : Machine k) (l : Ledger)
+    (I : Inv k first E m l) (w : ℕ) (tx : Transaction) → l.current w ≡ Some tx → (E' : ℕ → ℕ → Type 0)
+    (outcome : Outcome) → ((v line : ℕ) → (v ≡ w → ⊥) → E v line → E' v line)
+    → Inv k first E' (settles m w outcome) l
+unfolding settles
+settles_keeps k first keeps E m l I w tx mine E' outcome to =
+    phase_keeps k first keeps E' (withdraws m w) l (withdraws_keeps k first keeps E m l I w tx mine E' to) w tx mine
+    (Settled outcome) refl refl (withdrawn_calm k first keeps E m l I w tx mine)

@@ -3,6 +3,7 @@ use Rattle.book.specs.Meaning.{Kind}
 use Rattle.rules.specs.Queue.{product}
 use Rattle.rules.specs.Laws.{ProductLawful}
 use Rattle.rules.proofs.AccountsLaw.{law_of_accounts}
+use Rattle.rules.proofs.Explanation.{law_of_explanation}
 use Rattle.rules.proofs.ProductOrder.{product_covers}
 use Rattle.rules.proofs.WaitsLaw.{law_of_waits}
 
@@ -10,5 +11,6 @@ pub product_lawful : (k : Kind) → ProductLawful k
 product_lawful k keeps lines book good stamps calls =
     record {
       accounts = law_of_accounts k keeps (product k) lines book good stamps calls;
+      explained = law_of_explanation k (law_of_accounts k) keeps (product k) lines book good stamps calls;
       waits = law_of_waits k keeps (product k) (product_covers k) lines book good stamps calls;
     }

@@ -6,6 +6,7 @@ use Rattle.std.proofs.lemmas.List.{append_assoc, append-nil}
 use Rattle.std.specs.Option.{option_map}
 use Rattle.memory.specs.Lines.{Lines, put}
 use Rattle.rules.specs.Lists.{has, last_of}
+use Rattle.rules.specs.Logs.{LogEntry}
 use Rattle.rules.specs.Steps.{written}
 use Rattle.rules.specs.Transactions.{Found, own, by, at_first, Deed, loaded, stored, Transaction, own_store, writes}
 use Rattle.rules.specs.Transactions.{reads_line, stores_of, named, last_found}
@@ -21,27 +22,29 @@ pub written_at :
     (ls : Lines) (deeds : List Deed) (line : ℕ)
     → written ls (stores_of deeds) line ≡ over (own_store deeds line) (ls line)
 written_at ls [] line = refl
-written_at ls (loaded n v f ∷ deeds) line = written_at ls deeds line
-written_at ls (stored n v ∷ deeds) line =
-    ap (λ (m : Lines). m line) (fold_push (λ ls (s : ℕ × ℕ). put ls s.0 s.1) ls (stores_of deeds) (n, v))
-    ∙ ap (λ b. cond b (option_map (λ _. v) before) before) (eqb_sym line n)
-    ∙ step (eqb n line) (own_store deeds line) (written_at ls deeds line)
+written_at ls (loaded d ∷ deeds) line = written_at ls deeds line
+written_at ls (stored s ∷ deeds) line =
+    ap (λ (m : Lines). m line) (fold_push (λ ls (s : LogEntry). put ls s.line s.value) ls (stores_of deeds) s)
+    ∙ ap (λ b. cond b (option_map (λ _. s.value) before) before) (eqb_sym line s.line)
+    ∙ step (eqb s.line line) (own_store deeds line) (written_at ls deeds line)
   where
     before : Option ℕ
     before = written ls (stores_of deeds) line
 
-    twice : (u : ℕ) (o : Option ℕ) → option_map (λ _. v) (option_map (λ _. u) o) ≡ option_map (λ _. v) o
+    twice :
+        (u : ℕ) (o : Option ℕ)
+        → option_map (λ _. s.value) (option_map (λ _. u) o) ≡ option_map (λ _. s.value) o
     twice u None = refl
     twice u (Some x) = refl
 
-    thrice : (o : Option ℕ) → option_map (λ _. v) (over o (ls line)) ≡ option_map (λ _. v) (ls line)
+    thrice : (o : Option ℕ) → option_map (λ _. s.value) (over o (ls line)) ≡ option_map (λ _. s.value) (ls line)
     thrice None = refl
     thrice (Some u) = twice u (ls line)
 
     step :
         (b : Bool) (o : Option ℕ) → before ≡ over o (ls line)
-        → cond b (option_map (λ _. v) before) before ≡ over (cond b (Some v) o) (ls line)
-    step true o e = ap (option_map (λ _. v)) e ∙ thrice o
+        → cond b (option_map (λ _. s.value) before) before ≡ over (cond b (Some s.value) o) (ls line)
+    step true o e = ap (option_map (λ _. s.value)) e ∙ thrice o
     step false o e = e
 
 module _ (first : Lines) (txs : List Transaction) where
@@ -151,20 +154,20 @@ AtLoad P line v f None = P line v f
 
 abbrev pub EachLoad : (ℕ → ℕ → Found → Type 0) → List Deed → Type 0
 EachLoad P [] = Unit {0}
-EachLoad P (loaded line v f ∷ deeds) = AtLoad P line v f (own_store deeds line) × EachLoad P deeds
-EachLoad P (stored line v ∷ deeds) = EachLoad P deeds
+EachLoad P (loaded d ∷ deeds) = AtLoad P d.line d.value d.found (own_store deeds d.line) × EachLoad P deeds
+EachLoad P (stored s ∷ deeds) = EachLoad P deeds
 
 pub each_weaker :
     (P Q : ℕ → ℕ → Found → Type 0) → ((line v : ℕ) (f : Found) → P line v f → Q line v f)
     → (deeds : List Deed) → EachLoad P deeds → EachLoad Q deeds
 each_weaker P Q to [] h = tt
-each_weaker P Q to (loaded line v f ∷ deeds) h =
-    (step (own_store deeds line) h.0, each_weaker P Q to deeds h.1)
+each_weaker P Q to (loaded d ∷ deeds) h =
+    (step (own_store deeds d.line) h.0, each_weaker P Q to deeds h.1)
   where
-    step : (o : Option ℕ) → AtLoad P line v f o → AtLoad Q line v f o
-    step None p = to line v f p
+    step : (o : Option ℕ) → AtLoad P d.line d.value d.found o → AtLoad Q d.line d.value d.found o
+    step None p = to d.line d.value d.found p
     step (Some u) p = p
-each_weaker P Q to (stored line v ∷ deeds) h = each_weaker P Q to deeds h
+each_weaker P Q to (stored s ∷ deeds) h = each_weaker P Q to deeds h
 
 -- Loads that find alone what they found in the run get what they got in the run, and the other way round.
 module _ (P : ℕ → ℕ → Found → Type 0) (a : Account) where
@@ -175,57 +178,61 @@ module _ (P : ℕ → ℕ → Found → Type 0) (a : Account) where
       ((line v : ℕ) (f : Found) → P line v f → (a.last_values line ≡ Some v) × (there line ≡ f))
       → (deeds : List Deed) → EachLoad P deeds → got_by deeds ≡ gets_alone a deeds
   gets_the_same same [] h = refl
-  gets_the_same same (loaded line v f ∷ deeds) h =
-      ap (λ g. g ∷ got_by deeds) (step (own_store deeds line) h.0)
-      ∙ ap (λ l. gets_at (own_store deeds line) (a.last_values line) (there line) ∷ l)
+  gets_the_same same (loaded d ∷ deeds) h =
+      ap (λ g. g ∷ got_by deeds) (step (own_store deeds d.line) h.0)
+      ∙ ap (λ l. gets_at (own_store deeds d.line) (a.last_values d.line) (there d.line) ∷ l)
       (gets_the_same same deeds h.1)
     where
       got : ℕ → Found → Got
       got u g = record { value = Some u; found = g }
 
-      step : (o : Option ℕ) → AtLoad P line v f o → got v f ≡ gets_at o (a.last_values line) (there line)
-      step (Some u) p = ap (λ x. got x f) p.0 ∙ ap (got u) p.1
+      step :
+          (o : Option ℕ) → AtLoad P d.line d.value d.found o
+          → got d.value d.found ≡ gets_at o (a.last_values d.line) (there d.line)
+      step (Some u) p = ap (λ x. got x d.found) p.0 ∙ ap (got u) p.1
       step None p =
-          let s = same line v f p in
+          let s = same d.line d.value d.found p in
           (λ i. record { value = sym s.0 i; found = sym s.1 i })
-  gets_the_same same (stored line v ∷ deeds) h = gets_the_same same deeds h
+  gets_the_same same (stored s ∷ deeds) h = gets_the_same same deeds h
 
   pub finds_the_same :
       (deeds : List Deed) → got_by deeds ≡ gets_alone a deeds → EachLoad P deeds
       → EachLoad (λ line v f. P line v f × (f ≡ there line)) deeds
   finds_the_same [] e h = tt
-  finds_the_same (loaded line v f ∷ deeds) e h =
-      (step (own_store deeds line) h.0 (cc), finds_the_same deeds (cc) h.1)
+  finds_the_same (loaded d ∷ deeds) e h =
+      (step (own_store deeds d.line) h.0 (cc), finds_the_same deeds (cc) h.1)
     where
       step :
-          (o : Option ℕ) → AtLoad P line v f o
-          → record { value = Some v; found = f } ≡ gets_at o (a.last_values line) (there line)
-          → AtLoad (λ line v f. P line v f × (f ≡ there line)) line v f o
+          (o : Option ℕ) → AtLoad P d.line d.value d.found o
+          → record { value = Some d.value; found = d.found } ≡ gets_at o (a.last_values d.line) (there d.line)
+          → AtLoad (λ line v f. P line v f × (f ≡ there line)) d.line d.value d.found o
       step (Some u) p q = p
       step None p q = (p, ap (λ (g : Got). g.found) q)
-  finds_the_same (stored line v ∷ deeds) e h = finds_the_same deeds e h
+  finds_the_same (stored s ∷ deeds) e h = finds_the_same deeds e h
 
 -- A transaction that loaded a line and never stored to it found another's store there.
 pub found_elsewhere :
     (P : ℕ → ℕ → Found → Type 0) (line : ℕ) (deeds : List Deed) → reads_line deeds line ≡ true
     → own_store deeds line ≡ None → EachLoad P deeds → (v : ℕ) × (f : Found) × P line v f
 found_elsewhere P line [] r n h = absurd (both_ways false refl r)
-found_elsewhere P line (loaded m v f ∷ deeds) r n h =
-    step (eqb m line) refl r (λ k. found_elsewhere P line deeds k n h.1)
+found_elsewhere P line (loaded d ∷ deeds) r n h =
+    step (eqb d.line line) refl r (λ k. found_elsewhere P line deeds k n h.1)
   where
     step :
-        (b : Bool) → eqb m line ≡ b → (b || reads_line deeds line) ≡ true
+        (b : Bool) → eqb d.line line ≡ b → (b || reads_line deeds line) ≡ true
         → (reads_line deeds line ≡ true → (v : ℕ) × (f : Found) × P line v f)
         → (v : ℕ) × (f : Found) × P line v f
     step true e k rest =
-        let same : m ≡ line = eqb-true m line e in
-        let here : AtLoad P m v f None = subst (AtLoad P m v f) (ap (own_store deeds) same ∙ n) h.0 in
-        (v, f, subst (λ l. P l v f) same here)
+        let same : d.line ≡ line = eqb-true d.line line e in
+        let here : AtLoad P d.line d.value d.found None =
+        subst (AtLoad P d.line d.value d.found) (ap (own_store deeds) same ∙ n) h.0
+        in
+        (d.value, d.found, subst (λ l. P l d.value d.found) same here)
     step false e k rest = rest k
-found_elsewhere P line (stored m v ∷ deeds) r n h =
-    found_elsewhere P line deeds r (step (eqb m line) n) h
+found_elsewhere P line (stored s ∷ deeds) r n h =
+    found_elsewhere P line deeds r (step (eqb s.line line) n) h
   where
-    step : (b : Bool) → cond b (Some v) (own_store deeds line) ≡ None → own_store deeds line ≡ None
+    step : (b : Bool) → cond b (Some s.value) (own_store deeds line) ≡ None → own_store deeds line ≡ None
     step true k = cc
     step false k = k
 
@@ -235,12 +242,14 @@ pub each_read :
     → ((line : ℕ) → reads_line deeds line ≡ true → R line) → EachLoad P deeds
     → EachLoad (λ line v f. P line v f × R line) deeds
 each_read P R [] to h = tt
-each_read P R (loaded line v f ∷ deeds) to h = (
-  step (own_store deeds line) h.0,
-  each_read P R deeds (λ l r. to l (or_right (eqb line l) (reads_line deeds l) r)) h.1,
+each_read P R (loaded d ∷ deeds) to h = (
+  step (own_store deeds d.line) h.0,
+  each_read P R deeds (λ l r. to l (or_right (eqb d.line l) (reads_line deeds l) r)) h.1,
 )
   where
-    step : (o : Option ℕ) → AtLoad P line v f o → AtLoad (λ line v f. P line v f × R line) line v f o
+    step :
+        (o : Option ℕ) → AtLoad P d.line d.value d.found o
+        → AtLoad (λ line v f. P line v f × R line) d.line d.value d.found o
     step (Some u) p = p
-    step None p = (p, to line (or_left (eqb line line) (reads_line deeds line) (eqb_same line)))
-each_read P R (stored line v ∷ deeds) to h = each_read P R deeds to h
+    step None p = (p, to d.line (or_left (eqb d.line d.line) (reads_line deeds d.line) (eqb_same d.line)))
+each_read P R (stored s ∷ deeds) to h = each_read P R deeds to h

@@ -1,49 +1,51 @@
 -- The book counts each line's stores as its holder's transaction made them.
-use Rattle.std.proofs.Common.{◌≡◌, ℕ, suc, ◌+◌, ◌<◌, ◌≤◌, Bool, true, false, cond, eqb, ◌⊎◌, List, [], ◌∷◌, ◌++◌, length, is_some, Some, None, sym, refl, ap, ◌∙◌, subst, inl, inr, arith}
+use Rattle.std.proofs.Common.{◌≡◌, ℕ, suc, ◌+◌, ◌<◌, ◌≤◌, Bool, true, false, cond, eqb, ◌⊎◌, List, [], ◌∷◌, ◌++◌, length, is_some, Some, Option, sym, refl, ap, ◌∙◌, subst, inl, inr, arith}
 use Rattle.std.proofs.lemmas.List.{length_push}
 use Rattle.std.proofs.lemmas.Bool.{both_ways, ne_eqb, cases_eq}
 use Rattle.std.specs.Option.{option_map}
 use Rattle.protocol.specs.Limits.{line_limit}
 use Rattle.memory.specs.Lines.{Lines}
 use Rattle.book.specs.Meaning.{Kind}
+use Rattle.rules.specs.Lists.{has}
+use Rattle.rules.specs.Logs.{entry}
 use Rattle.rules.specs.Transactions.{Deed, loaded, stored, Transaction, own_store, writes, stores_of, times_stored}
-use Rattle.rules.specs.Ledger.{Ledger, doing, with_current, begins, ends_here}
+use Rattle.rules.specs.Ledger.{Ledger, doing, with_current, begins}
 use Rattle.rules.proofs.ListFacts.{eqb_same}
 use Rattle.rules.proofs.Ledgers.{hold_in, hold, hold_writes, History, current_cases}
 
 -- What is stored to is counted, and no more often than there are stores.
 pub never_stored : (deeds : List Deed) (line : ℕ) → writes deeds line ≡ false → times_stored deeds line ≡ 0
 never_stored [] line h = refl
-never_stored (loaded n v f ∷ deeds) line h = never_stored deeds line h
-never_stored (stored n v ∷ deeds) line h = step (eqb n line) h (never_stored deeds line)
+never_stored (loaded d ∷ deeds) line h = never_stored deeds line h
+never_stored (stored s ∷ deeds) line h = step (eqb s.line line) h (never_stored deeds line)
   where
     step :
-        (b : Bool) → is_some (cond b (Some v) (own_store deeds line)) ≡ false
+        (b : Bool) → is_some (cond b (Some s.value) (own_store deeds line)) ≡ false
         → (writes deeds line ≡ false → times_stored deeds line ≡ 0) → cond b 1 0 + times_stored deeds line ≡ 0
     step true p rest = absurd (both_ways true p refl)
     step false p rest = let e = rest p in omega arith
 
 pub once_stored : (deeds : List Deed) (line : ℕ) → writes deeds line ≡ true → 0 < times_stored deeds line
 once_stored [] line h = absurd (both_ways false refl h)
-once_stored (loaded n v f ∷ deeds) line h = once_stored deeds line h
-once_stored (stored n v ∷ deeds) line h = step (eqb n line) h (once_stored deeds line)
+once_stored (loaded d ∷ deeds) line h = once_stored deeds line h
+once_stored (stored s ∷ deeds) line h = step (eqb s.line line) h (once_stored deeds line)
   where
     step :
-        (b : Bool) → is_some (cond b (Some v) (own_store deeds line)) ≡ true
+        (b : Bool) → is_some (cond b (Some s.value) (own_store deeds line)) ≡ true
         → (writes deeds line ≡ true → 0 < times_stored deeds line) → 0 < cond b 1 0 + times_stored deeds line
     step true p rest = omega arith
     step false p rest = let e = rest p in omega arith
 
 pub stored_at_most : (deeds : List Deed) (line : ℕ) → times_stored deeds line ≤ length (stores_of deeds)
 stored_at_most [] line = omega arith
-stored_at_most (loaded n v f ∷ deeds) line = stored_at_most deeds line
-stored_at_most (stored n v ∷ deeds) line = step (eqb n line) (stored_at_most deeds line)
+stored_at_most (loaded d ∷ deeds) line = stored_at_most deeds line
+stored_at_most (stored s ∷ deeds) line = step (eqb s.line line) (stored_at_most deeds line)
   where
     step :
         (b : Bool) → times_stored deeds line ≤ length (stores_of deeds)
-        → cond b 1 0 + times_stored deeds line ≤ length (stores_of deeds ++ (n, v) ∷ [])
-    step true h = let e = length_push (stores_of deeds) (n, v) in omega arith
-    step false h = let e = length_push (stores_of deeds) (n, v) in omega arith
+        → cond b 1 0 + times_stored deeds line ≤ length (stores_of deeds ++ s ∷ [])
+    step true h = let e = length_push (stores_of deeds) s in omega arith
+    step false h = let e = length_push (stores_of deeds) s in omega arith
 
 module _ (k : Kind) where
   -- The count of each held line is how often its holder's transaction stored to it.
@@ -100,13 +102,13 @@ module _ (k : Kind) where
         → ((line : ℕ) → line < line_limit → (line ≡ at → ⊥) → k.stores s' line ≡ k.stores s line)
         → k.stores s' at ≡ suc (times_stored tx.deeds at)
         → ((h : ℕ) → k.owner s at ≡ Some h → h ≡ w)
-        → Tallied (with_current l w (option_map (λ t. doing t (stored at v)) (l.current w))) s'
+        → Tallied (with_current l w (option_map (λ t. doing t (stored (entry at v))) (l.current w))) s'
     tally_store w at v tx mine same one_more only h t e line x =
-        step (current_cases l w (option_map (λ t. doing t (stored at v)) (l.current w)) h t e)
+        step (current_cases l w (option_map (λ t. doing t (stored (entry at v))) (l.current w)) h t e)
       where
         others :
-            (line ≡ at) ⊎ (line ≡ at → ⊥) → writes (stored at v ∷ tx.deeds) line ≡ true
-            → k.stores s' line ≡ times_stored (stored at v ∷ tx.deeds) line
+            (line ≡ at) ⊎ (line ≡ at → ⊥) → writes (stored (entry at v) ∷ tx.deeds) line ≡ true
+            → k.stores s' line ≡ times_stored (stored (entry at v) ∷ tx.deeds) line
         others (inl p) y =
             ap (k.stores s') p ∙ one_more
             ∙ grow (times_stored tx.deeds at)
@@ -125,14 +127,14 @@ module _ (k : Kind) where
             omega arith
 
         step :
-            ((h ≡ w) × (option_map (λ t. doing t (stored at v)) (l.current w) ≡ Some t))
+            ((h ≡ w) × (option_map (λ t. doing t (stored (entry at v))) (l.current w) ≡ Some t))
             ⊎ ((h ≡ w → ⊥) × (l.current h ≡ Some t))
             → k.stores s' line ≡ times_stored t.deeds line
         step (inl p) =
-            let q : Some (doing tx (stored at v)) ≡ Some t =
-            sym (ap (option_map (λ t. doing t (stored at v))) mine) ∙ p.1
+            let q : Some (doing tx (stored (entry at v))) ≡ Some t =
+            sym (ap (option_map (λ t. doing t (stored (entry at v)))) mine) ∙ p.1
             in
-            let one : doing tx (stored at v) ≡ t = cc in
+            let one : doing tx (stored (entry at v)) ≡ t = cc in
             others (cases_eq line at) (subst (λ (u : Transaction). writes u.deeds line ≡ true) (sym one) x)
             ∙ ap (λ (u : Transaction). times_stored u.deeds line) one
         step (inr p) =
@@ -140,28 +142,31 @@ module _ (k : Kind) where
             (λ z. p.0 (only h (subst (λ n. k.owner s n ≡ Some h) z (owned h t p.1 line x))))
             ∙ T h t p.1 line x
 
-    -- An end leaves the counts of lines that others hold.
-    pub tally_end :
-        (w : ℕ) (tx : Transaction) → l.current w ≡ Some tx
-        → ((line : ℕ) → line < line_limit → writes tx.deeds line ≡ false → k.stores s' line ≡ k.stores s line)
-        → Tallied (ends_here l w) s'
-    tally_end w tx mine same h t e line x = step (current_cases l w None h t e)
+    -- Letting some lines go leaves the counts of the lines that are still held.
+    pub tally_let_go :
+        (w : ℕ) (gone : List ℕ) (o : Option Transaction)
+        → ((line : ℕ) → has line gone ≡ true → (t : ℕ) × (hold l w line ≡ Some t))
+        → ((line : ℕ) → line < line_limit → has line gone ≡ false → k.stores s' line ≡ k.stores s line)
+        → ((tx : Transaction) → o ≡ Some tx → (line : ℕ) → writes tx.deeds line ≡ true
+        → k.stores s' line ≡ times_stored tx.deeds line)
+        → Tallied (with_current l w o) s'
+    tally_let_go w gone o its same left h t e line x = step (current_cases l w o h t e)
       where
-        not_mine : (h ≡ w → ⊥) → l.current h ≡ Some t → (b : Bool) → writes tx.deeds line ≡ b → b ≡ false
-        not_mine n p true y =
+        not_gone : (h ≡ w → ⊥) → l.current h ≡ Some t → (b : Bool) → has line gone ≡ b → b ≡ false
+        not_gone n p true y =
+            let q = its line y in
             let a = owned h t p line x in
-            let c = owned w tx mine line y in
+            let c = (H.core.holder w line q.0 q.1).owns in
             let z : h ≡ w = cc in
             absurd (n z)
-        not_mine n p false y = refl
+        not_gone n p false y = refl
 
         step :
-            ((h ≡ w) × (None ≡ Some t)) ⊎ ((h ≡ w → ⊥) × (l.current h ≡ Some t))
+            ((h ≡ w) × (o ≡ Some t)) ⊎ ((h ≡ w → ⊥) × (l.current h ≡ Some t))
             → k.stores s' line ≡ times_stored t.deeds line
-        step (inl p) = let q = p.1 in let z : ◌≡◌ {A = ℕ} 0 1 = cc in absurd (omega arith)
+        step (inl p) = left t p.1 line x
         step (inr p) =
-            same line (low h t p.1 line x) (not_mine p.0 p.1 (writes tx.deeds line) refl)
-            ∙ T h t p.1 line x
+            same line (low h t p.1 line x) (not_gone p.0 p.1 (has line gone) refl) ∙ T h t p.1 line x
 
   -- A new transaction has stored nothing.
   pub tally_begin : (l : Ledger) (s : k.State) → Tallied l s → (w stamp : ℕ) → Tallied (begins l w stamp) s

@@ -12,12 +12,13 @@ use Rattle.rules.specs.declared.state.Access.{Access}
 use Rattle.rules.specs.declared.state.Access.TheVariants.{Read, Write}
 use Rattle.rules.specs.declared.state.Request.{Request}
 use Rattle.rules.specs.Lists.{has}
-use Rattle.rules.specs.State.{WarpRow, Machine, Settling, is_idle, is_waiting, warp_row_of, time_of}
+use Rattle.rules.specs.Logs.{entry, logged_lines}
+use Rattle.rules.specs.State.{WarpRow, Machine, Settling, idle_at, is_idle, is_waiting, warp_row_of, time_of}
 use Rattle.rules.specs.Access.{Verdict, told, own_line, lost, must_wait, go_on, retried}
 use Rattle.rules.specs.Queue.{Policy, request_of, access_at, pending}
 use Rattle.rules.specs.Serving.{memory_value, serves}
-use Rattle.rules.specs.Ending.{Woken, settles, settling, tried, retries, tries, wakes, lets_go, ends, logged_lines}
-use Rattle.rules.specs.Transactions.{Transaction, loaded, stored}
+use Rattle.rules.specs.Ending.{Woken, settles, settling, tried, retries, tries, wakes, lets_go, gives_up, ends}
+use Rattle.rules.specs.Transactions.{Transaction, loaded, stored, load_deed}
 use Rattle.rules.specs.Ledger.{Ledger, doing, load_found, settles_one, comes_as}
 use Rattle.rules.proofs.Verdicts.{Means, retried_means}
 use Rattle.rules.proofs.Logs.{waiting_busy}
@@ -85,16 +86,18 @@ module _ (k : Kind) (first : Lines) (keeps : Keeps k) (start : Ledger) where
       → (t : Transaction) × ((comes_as l w line access (serves m w line access).outcome).current w ≡ Some t)
   unfolding serves
   served_current m l w line Read tx mine = (
-    doing tx (loaded line (memory_value m line) (load_found l.committed tx line)),
+    doing tx (loaded (load_deed line (memory_value m line) (load_found l.committed tx line))),
     current_mine k first l w
-        (option_map (λ t. doing t (loaded line (memory_value m line) (load_found l.committed t line)))
+        (option_map (λ t. doing t (loaded (load_deed line (memory_value m line) (load_found l.committed t line))))
         (l.current w))
-        ∙ ap (option_map (λ t. doing t (loaded line (memory_value m line) (load_found l.committed t line)))) mine,
+        ∙ ap
+        (option_map (λ t. doing t (loaded (load_deed line (memory_value m line) (load_found l.committed t line)))))
+        mine,
   )
   served_current m l w line (Write value) tx mine = (
-    doing tx (stored line value),
-    current_mine k first l w (option_map (λ t. doing t (stored line value)) (l.current w))
-        ∙ ap (option_map (λ t. doing t (stored line value))) mine,
+    doing tx (stored (entry line value)),
+    current_mine k first l w (option_map (λ t. doing t (stored (entry line value))) (l.current w))
+        ∙ ap (option_map (λ t. doing t (stored (entry line value)))) mine,
   )
 
   module _ (E E' : ℕ → ℕ → Type 0) (st : Woken k) (w line : ℕ) (I : Inv k first E st.machine (told_by st))
@@ -133,8 +136,12 @@ module _ (k : Kind) (first : Lines) (keeps : Keeps k) (start : Ledger) where
         tried_keeps access own_line bad = absurd bad
         tried_keeps access (lost cause next) u =
             subst (Inv k first E' (settles st.machine w (Lost cause next)))
-            (sym (one_more st (settling w line access (Lost cause next))))
+            (sym (one_more st (settling w line access (Lost cause next)) ∙ lost_joins_nothing access))
             (settles_keeps k first keeps E st.machine (told_by st) I w its.0 its.1 E' (Lost cause next) others)
+          where
+            lost_joins_nothing : (a : Access) → comes_as (told_by st) w line a (Lost cause next) ≡ told_by st
+            lost_joins_nothing Read = refl
+            lost_joins_nothing (Write value) = refl
         tried_keeps access must_wait stall =
             exempt k first E E' st.machine (told_by st) I (λ v r p q e. keep v r q (drop v r.line e))
           where
@@ -181,8 +188,8 @@ module _ (k : Kind) (first : Lines) (keeps : Keeps k) (start : Ledger) where
               (subst (λ u. request_of st.machine.queue u ≡ Some r) x.0 q) x.1)
       retries_keeps (Some access) e =
           tried_keeps (pending_some st.machine w line access e) access
-          (retried access (told k st.machine.book line) (time_of st.machine w) false)
-          (retried_means ⊥ access (told k st.machine.book line) (time_of st.machine w) false)
+          (retried access (told k st.machine.book line) (time_of st.machine w))
+          (retried_means ⊥ access (told k st.machine.book line) (time_of st.machine w))
 
       pub tries_keeps : Inv k first E' (tries line st w).machine (told_by (tries line st w))
       tries_keeps = retries_keeps (pending st.machine w line) refl
@@ -257,11 +264,21 @@ module _ (k : Kind) (first : Lines) (keeps : Keeps k) (start : Ledger) where
           (λ v r p q e. inl (⊎_elim (λ x. x) (λ x. absurd (both_ways false refl x)) e))
       lines_keep (line ∷ lines) st I = lines_keep lines (wakes policy st line) (wakes_keeps line lines st I)
 
-      -- The end of a transaction, with every try.
+      -- Lines given up, with every try.
+      pub gives_up_keeps :
+          (m : Machine k) (w : ℕ) (warp_row : WarpRow) (lines : List ℕ)
+          → Inv k first (λ v n. E₀ ⊎ (has n lines ≡ true)) (lets_go m w warp_row lines) start
+          → Inv k first (λ v n. E₀) (gives_up policy m w warp_row lines).machine
+          (told_by (gives_up policy m w warp_row lines))
+      unfolding gives_up
+      gives_up_keeps m w warp_row lines I =
+          lines_keep lines (record { machine = lets_go m w warp_row lines; settled = [] }) I
+
+      -- The end of a transaction.
       pub ends_keeps :
           (m : Machine k) (w stamp : ℕ)
-          → Inv k first (λ v n. E₀ ⊎ (has n (logged_lines (warp_row_of m w).log) ≡ true)) (lets_go m w stamp) start
+          → Inv k first (λ v n. E₀ ⊎ (has n (logged_lines (warp_row_of m w).log) ≡ true))
+          (lets_go m w (idle_at stamp) (logged_lines (warp_row_of m w).log)) start
           → Inv k first (λ v n. E₀) (ends policy m w stamp).machine (told_by (ends policy m w stamp))
       unfolding ends
-      ends_keeps m w stamp I =
-          lines_keep (logged_lines (warp_row_of m w).log) (record { machine = lets_go m w stamp; settled = [] }) I
+      ends_keeps m w stamp I = gives_up_keeps m w (idle_at stamp) (logged_lines (warp_row_of m w).log) I

@@ -1,12 +1,12 @@
 -- What each verdict of the access steps says of the line.
 use Rattle.std.proofs.Common.{◌≡◌, ℕ, ◌≤◌, Bool, true, false, Some, None, Option, refl, ap}
 use Rattle.std.proofs.lemmas.Bool.{both_ways, cond_both, eqb-true, ltb-false}
-use Rattle.protocol.specs.declared.answer.Cause.TheVariants.{QueueFull, NoSlot}
+use Rattle.protocol.specs.declared.answer.Cause.TheVariants.{NoSlot}
 use Rattle.book.specs.Time.{Time, earlier}
 use Rattle.rules.specs.declared.state.Access.{Access}
 use Rattle.rules.specs.declared.state.Access.TheVariants.{Read, Write}
 use Rattle.rules.specs.Access.{Told, Verdict, own_line, lost, must_wait, go_on, by_owner, by_mark, retried, is_owner}
-use Rattle.rules.specs.Access.{decide}
+use Rattle.rules.specs.Access.{decide, if_room}
 
 -- A store goes on only where no later read is marked and there is a slot.
 abbrev pub Storable : Access → Told → Time → Type 0
@@ -36,29 +36,27 @@ Means P access t time (lost cause next) = Unit {0}
 Means P access t time must_wait = Stalls t time
 Means P access t time go_on = Goes access t time
 
-module _ (P : Type 0) (t : Told) (time : Time) (full : Bool) (unwritten : t.write_stamp ≤ time.0) where
+module _ (P : Type 0) (t : Told) (time : Time) (unwritten : t.write_stamp ≤ time.0) where
   owner_means :
       (access : Access) → Unmarked access t time → (o : Option ℕ) → t.owner ≡ o
-      → Means P access t time (by_owner o access t time full)
+      → Means P access t time (by_owner o access t time)
   owner_means Read st None e = record { nobody = e; unwritten = unwritten; storable = tt }
   owner_means (Write value) st None e =
       cond_both t.has_slot go_on (lost NoSlot time.0) (Means P (Write value) t time)
       (λ s. record { nobody = e; unwritten = unwritten; storable = (st, s) }) (λ s. tt)
   owner_means access st (Some v) e =
-      cond_both full (lost QueueFull time.0) must_wait (Means P access t time) (λ s. tt)
-      (λ s. record { holder = v; owned = e; unwritten = unwritten })
+      record { holder = v; owned = e; unwritten = unwritten }
 
-  mark_means : (access : Access) → Means P access t time (by_mark access t time full)
+  mark_means : (access : Access) → Means P access t time (by_mark access t time)
   mark_means Read = owner_means Read tt t.owner refl
   mark_means (Write value) =
       cond_both _ _ _ (Means P (Write value) t time) (λ e. tt) (λ e. owner_means (Write value) e t.owner refl)
 
 pub retried_means :
-    (P : Type 0) (access : Access) (t : Told) (time : Time) (full : Bool)
-    → Means P access t time (retried access t time full)
-retried_means P access t time full =
+    (P : Type 0) (access : Access) (t : Told) (time : Time) → Means P access t time (retried access t time)
+retried_means P access t time =
     cond_both _ _ _ (Means P access t time) (λ e. tt)
-    (λ e. mark_means P t time full (ltb-false time.0 t.write_stamp e) access)
+    (λ e. mark_means P t time (ltb-false time.0 t.write_stamp e) access)
 
 -- The owner is the warp itself.
 mine : (o : Option ℕ) (w : ℕ) → is_owner o w ≡ true → o ≡ Some w
@@ -66,8 +64,17 @@ mine None w e = absurd (both_ways false refl e)
 mine (Some v) w e = ap Some (eqb-true v w e)
 
 pub decide_means :
-    (access : Access) (t : Told) (time : Time) (full : Bool)
-    → Means (t.owner ≡ Some time.1) access t time (decide access t time full)
-decide_means access t time full =
+    (access : Access) (t : Told) (time : Time) → Means (t.owner ≡ Some time.1) access t time (decide access t time)
+decide_means access t time =
     cond_both _ _ _ (Means (t.owner ≡ Some time.1) access t time) (λ e. mine t.owner time.1 e)
-    (λ e. retried_means (t.owner ≡ Some time.1) access t time full)
+    (λ e. retried_means (t.owner ≡ Some time.1) access t time)
+
+-- A queue without room only turns a wait into a loss.
+pub room_means :
+    (P : Type 0) (access : Access) (t : Told) (time : Time) (full : Bool) (stamp : ℕ) (v : Verdict)
+    → Means P access t time v → Means P access t time (if_room full stamp v)
+room_means P access t time full stamp own_line p = p
+room_means P access t time full stamp (lost cause next) p = tt
+room_means P access t time true stamp must_wait p = tt
+room_means P access t time false stamp must_wait p = p
+room_means P access t time full stamp go_on p = p

@@ -45,22 +45,22 @@ abbrev pub unowned : Access → Told → Time → Verdict
 unowned Read t time = go_on
 unowned (Write value) t time = cond t.has_slot go_on (lost NoSlot time.0)
 
--- Fourth step, the line is another warp's: the request waits if the queue has room for it.
-abbrev pub by_owner : Option ℕ → Access → Told → Time → Bool → Verdict
-by_owner None access t time full = unowned access t time
-by_owner (Some v) access t time full = cond full (lost QueueFull time.0) must_wait
+-- Fourth step, the line is another warp's: the request must wait.
+abbrev pub by_owner : Option ℕ → Access → Told → Time → Verdict
+by_owner None access t time = unowned access t time
+by_owner (Some v) access t time = must_wait
 
 -- Third step: a store must not come before a read that is logically later.
-abbrev pub by_mark : Access → Told → Time → Bool → Verdict
-by_mark Read t time full = by_owner t.owner Read t time full
-by_mark (Write value) t time full =
+abbrev pub by_mark : Access → Told → Time → Verdict
+by_mark Read t time = by_owner t.owner Read t time
+by_mark (Write value) t time =
     cond (earlier time t.read_mark) (lost ReadLater (stamp_past (Write value) t))
-    (by_owner t.owner (Write value) t time full)
+    (by_owner t.owner (Write value) t time)
 
 -- Second step: nothing comes before a write that is logically later. A request that waited is tried from here on.
-abbrev pub retried : Access → Told → Time → Bool → Verdict
-retried access t time full =
-    cond (nat_lt time.0 t.write_stamp) (lost WrittenLater (stamp_past access t)) (by_mark access t time full)
+abbrev pub retried : Access → Told → Time → Verdict
+retried access t time =
+    cond (nat_lt time.0 t.write_stamp) (lost WrittenLater (stamp_past access t)) (by_mark access t time)
 
 -- The warp has the line reserved.
 abbrev pub is_owner : Option ℕ → ℕ → Bool
@@ -68,5 +68,12 @@ is_owner None w = false
 is_owner (Some v) w = v == w
 
 -- First step: the warp's own line. All steps, in their order.
-abbrev pub decide : Access → Told → Time → Bool → Verdict
-decide access t time full = cond (is_owner t.owner time.1) own_line (retried access t time full)
+abbrev pub decide : Access → Told → Time → Verdict
+decide access t time = cond (is_owner t.owner time.1) own_line (retried access t time)
+
+-- The queue is asked for room only where the request must wait: without room its transaction is lost at its own stamp.
+abbrev pub if_room : Bool → ℕ → Verdict → Verdict
+if_room full stamp own_line = own_line
+if_room full stamp (lost cause next) = lost cause next
+if_room full stamp must_wait = cond full (lost QueueFull stamp) must_wait
+if_room full stamp go_on = go_on

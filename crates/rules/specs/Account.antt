@@ -21,9 +21,8 @@ pub record Account : Type 0 where
 -- What a transaction's loads got in the run.
 abbrev pub got_by : List Deed → List Got
 got_by [] = []
-got_by (loaded line value found ∷ earlier_deeds) =
-    record { value = Some value; found = found } ∷ got_by earlier_deeds
-got_by (stored line value ∷ earlier_deeds) = got_by earlier_deeds
+got_by (loaded d ∷ earlier_deeds) = record { value = Some d.value; found = d.found } ∷ got_by earlier_deeds
+got_by (stored s ∷ earlier_deeds) = got_by earlier_deeds
 
 -- The machine's account: what was recorded, and the memory after the run.
 abbrev pub account_of : List Transaction → Lines → Account
@@ -42,10 +41,10 @@ gets_at None value found = record { value = value; found = found }
 -- What a transaction's loads get where an account has come to.
 abbrev pub gets_alone : Account → List Deed → List Got
 gets_alone a [] = []
-gets_alone a (loaded line value found ∷ earlier_deeds) =
-    gets_at (own_store earlier_deeds line) (a.last_values line) (last_found (last_of (a.line_writers line)))
+gets_alone a (loaded d ∷ earlier_deeds) =
+    gets_at (own_store earlier_deeds d.line) (a.last_values d.line) (last_found (last_of (a.line_writers d.line)))
     ∷ gets_alone a earlier_deeds
-gets_alone a (stored line value ∷ earlier_deeds) = gets_alone a earlier_deeds
+gets_alone a (stored s ∷ earlier_deeds) = gets_alone a earlier_deeds
 
 -- One transaction runs alone: its loads get what they get, then it writes its stores in order and joins their lines'
 -- writers.

@@ -1,11 +1,11 @@
--- The end of a transaction: its lines are released, and then the requests that wait for them are tried.
-use Rattle.std.specs.Prelude.{ℕ, false, List, [], ◌∷◌, ◌++◌, map, Some, None, fold, Option}
+-- The end of a transaction, over its lines: they are released, and then the requests that wait for them are tried.
+use Rattle.std.specs.Prelude.{ℕ, List, [], ◌∷◌, ◌++◌, Some, None, fold, Option}
 use Rattle.protocol.specs.declared.answer.Outcome.{Outcome}
 use Rattle.protocol.specs.declared.answer.Outcome.TheVariants.{Gone as Lost}
 use Rattle.book.specs.Meaning.{Kind, released}
 use Rattle.rules.specs.declared.state.Access.{Access}
-use Rattle.rules.specs.declared.state.Phase.TheVariants.{Settled}
-use Rattle.rules.specs.Lists.{distinct}
+use Rattle.rules.specs.declared.state.Phase.TheVariants.{Open, Settled}
+use Rattle.rules.specs.Logs.{logged_lines}
 use Rattle.rules.specs.State.{WarpRow, Machine, Settling, idle_at, in_phase, warp_row_of, time_of, with_book, with_warp_row}
 use Rattle.rules.specs.State.{with_queue}
 use Rattle.rules.specs.Access.{Verdict, told, retried, own_line, lost, must_wait, go_on}
@@ -21,19 +21,19 @@ pub record Woken (k : Kind) : Type 0 where
 abbrev pub settling : ℕ → ℕ → Access → Outcome → Settling
 settling w line access outcome = record { warp = w; line = line; access = access; outcome = outcome }
 
--- The lines that a log stores to, in the order of their first store.
-abbrev pub logged_lines : List (ℕ × ℕ) → List ℕ
-logged_lines log = distinct (map (λ (s : ℕ × ℕ). s.0) log)
-
 -- A row whose request has come out. Its stamp stays until the outcome is fetched.
 abbrev pub with_outcome : WarpRow → Outcome → WarpRow
 with_outcome warp_row outcome = in_phase warp_row (Settled outcome)
 
 module _ {k : Kind} where
-  -- A request comes out: it leaves the queue, and its warp has an outcome to fetch.
+  -- A request is withdrawn: it leaves the queue, and its warp is open again.
+  unfoldable pub withdraws : Machine k → ℕ → Machine k
+  withdraws m w = with_queue (with_warp_row m w (in_phase (warp_row_of m w) Open)) (without m.queue w)
+
+  -- A request comes out: it is withdrawn, and its warp has an outcome to fetch.
   unfoldable pub settles : Machine k → ℕ → Outcome → Machine k
   settles m w outcome =
-      with_queue (with_warp_row m w (with_outcome (warp_row_of m w) outcome)) (without m.queue w)
+      let back = withdraws m w in with_warp_row back w (with_outcome (warp_row_of back w) outcome)
 
   -- The request is noted as the last that came out.
   abbrev pub comes_out : Woken k → Machine k → ℕ → ℕ → Access → Outcome → Woken k
@@ -54,7 +54,7 @@ module _ {k : Kind} where
   retries st w line None = st
   retries st w line (Some access) =
       tried st w line access
-      (retried access (told k st.machine.book line) (time_of st.machine w) false)
+      (retried access (told k st.machine.book line) (time_of st.machine w))
 
   -- What the warp waits for is looked up when its turn comes.
   abbrev pub tries : ℕ → Woken k → ℕ → Woken k
@@ -64,13 +64,23 @@ module _ {k : Kind} where
   unfoldable pub wakes : Policy k → Woken k → ℕ → Woken k
   wakes policy st line = fold (tries line) st (policy.turns st.machine line)
 
-  -- All its lines are released, its log is discarded, and its warp is idle at a stamp.
-  unfoldable pub lets_go : Machine k → ℕ → ℕ → Machine k
-  lets_go m w stamp =
-      with_warp_row (with_book m (fold (released k) m.book (logged_lines (warp_row_of m w).log))) w (idle_at stamp)
+  -- Some lines are released.
+  abbrev pub releases_lines : Machine k → List ℕ → Machine k
+  releases_lines m lines = with_book m (fold (released k) m.book lines)
 
-  -- Then its lines' waiting requests are tried, line by line.
+  -- A warp lets go of some lines: they are released, and then its row becomes another.
+  unfoldable pub lets_go : Machine k → ℕ → WarpRow → List ℕ → Machine k
+  lets_go m w warp_row lines = with_warp_row (releases_lines m lines) w warp_row
+
+  -- The requests that wait for some lines are tried, line by line.
+  abbrev pub wakes_lines : Policy k → Machine k → List ℕ → Woken k
+  wakes_lines policy m lines = fold (wakes policy) (record { machine = m; settled = [] }) lines
+
+  -- A warp gives up some lines in three steps: they are released, its row becomes another, and who waits for them is
+  -- tried.
+  unfoldable pub gives_up : Policy k → Machine k → ℕ → WarpRow → List ℕ → Woken k
+  gives_up policy m w warp_row lines = wakes_lines policy (lets_go m w warp_row lines) lines
+
+  -- A transaction ends: its warp gives up the lines that its log stores to, and is idle at a stamp.
   unfoldable pub ends : Policy k → Machine k → ℕ → ℕ → Woken k
-  ends policy m w stamp =
-      fold (wakes policy) (record { machine = lets_go m w stamp; settled = [] })
-      (logged_lines (warp_row_of m w).log)
+  ends policy m w stamp = gives_up policy m w (idle_at stamp) (logged_lines (warp_row_of m w).log)

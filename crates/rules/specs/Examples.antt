@@ -1,11 +1,18 @@
 -- Small runs over the exact book that show that the accounts and the laws can tell right from wrong.
-use Rattle.std.specs.Prelude.{◌≡◌, ℕ, true, List, [], ◌∷◌, length}
+use Rattle.std.specs.Prelude.{◌≡◌, ℕ, true, List, [], ◌∷◌, map, length, fold}
 use Rattle.protocol.specs.declared.call.Call.{Call}
 use Rattle.memory.specs.Lines.{Lines, word_lines}
-use Rattle.book.specs.Exact.{exact}
-use Rattle.rules.specs.Runs.{Run}
-use Rattle.rules.specs.Transactions.{by, at_first, loaded, stored, Transaction}
-use Rattle.rules.specs.Ledger.{Ledger, new_ledger, ledger_of}
+use Rattle.book.specs.Exact.{exact, exact_new}
+use Rattle.protocol.specs.declared.answer.Outcome.TheVariants.{Value, Stored, Gone as Lost}
+use Rattle.rules.specs.declared.state.Phase.{Phase}
+use Rattle.rules.specs.declared.state.Phase.TheVariants.{Idle, Open, Waiting, Settled}
+use Rattle.rules.specs.State.{WarpRow, Machine}
+use Rattle.rules.specs.Queue.{product}
+use Rattle.rules.specs.Making.{make}
+use Rattle.rules.specs.Runs.{Run, goes_on}
+use Rattle.rules.specs.Logs.{entry}
+use Rattle.rules.specs.Transactions.{by, at_first, loaded, stored, load_deed, Transaction}
+use Rattle.rules.specs.Ledger.{Ledger, ledger_of}
 use Rattle.rules.specs.Account.{account_of, alone, EqualAccounts}
 use Rattle.rules.specs.LogicalTime.{before_in_time, Clash}
 use Rattle.rules.specs.Laws.{Leads, WaitsEnd}
@@ -101,8 +108,8 @@ settled_load =
 abbrev pub SettledLoadFound : Type 0
 SettledLoadFound =
     sample_commits settled_load
-    ≡ record { stamp = 0; warp = 0; deeds = stored 0 8 ∷ [] }
-    ∷ record { stamp = 3; warp = 1; deeds = loaded 0 8 (by 0) ∷ [] } ∷ []
+    ≡ record { stamp = 0; warp = 0; deeds = stored (entry 0 8) ∷ [] }
+    ∷ record { stamp = 3; warp = 1; deeds = loaded (load_deed 0 8 (by 0)) ∷ [] } ∷ []
 
 -- Three wait in a chain: warp 3 for warp 2, warp 2 for warp 1, warp 1 for warp 0, which does not wait.
 abbrev pub chain : Sample
@@ -119,15 +126,58 @@ chain =
 abbrev pub ChainOfThree : Type 0
 ChainOfThree = Leads (sample_run chain).machine (sample_ledger chain) 3 3
 
--- Had the holders ended without a try, the law of waits would not hold of that machine.
-abbrev pub ForgottenWaits : Type 0
-ForgottenWaits = WaitsEnd (sample_run chain).machine new_ledger → ⊥
+-- A wrong machine takes the next stamp of a request that came out as gone at once, and not when it is fetched: while
+-- its warp still holds lines.
+abbrev pub stamp_taken : Phase → ℕ → ℕ
+stamp_taken Idle stamp = stamp
+stamp_taken Open stamp = stamp
+stamp_taken Waiting stamp = stamp
+stamp_taken (Settled (Value value)) stamp = stamp
+stamp_taken (Settled Stored) stamp = stamp
+stamp_taken (Settled (Lost cause next)) stamp = next
+
+abbrev pub row_taken : WarpRow → WarpRow
+row_taken warp_row = record warp_row { stamp = stamp_taken warp_row.phase warp_row.stamp }
+
+abbrev pub taken_early : Machine exact → Machine exact
+taken_early m = record m { warp_rows = map row_taken m.warp_rows }
+
+-- One call more of it, and a run.
+abbrev pub goes_on_early : Run exact → Call → Run exact
+goes_on_early r call =
+    let right = goes_on (product exact) r call in
+    record right { machine = taken_early right.machine }
+
+abbrev pub run_early : Sample → Run exact
+run_early s =
+    fold goes_on_early (record { machine = make exact (word_lines s.values) exact_new s.stamps; events = [] }) s.calls
+
+-- Warps 1 and 2 wait for warp 0's line, both at stamp 5, and warp 3 at stamp 6 for a line of warp 2. Warp 0 commits: warp
+-- 1 takes the line, and warp 2's load comes out as gone, with the next stamp 7.
+abbrev pub lost_holder : Sample
+lost_holder =
+    record {
+      stamps = 0 ∷ 5 ∷ 5 ∷ 6 ∷ [];
+      values = 7 ∷ 7 ∷ [];
+      calls =
+          begin_by 0 ∷ begin_by 1 ∷ begin_by 2 ∷ begin_by 3
+          ∷ store_by 0 0 1 ∷ store_by 2 1 2
+          ∷ store_by 1 0 3 ∷ load_by 2 0 ∷ load_by 3 1
+          ∷ commit_by 0 ∷ [];
+    }
+
+-- The right machine's waits end; the wrong one's do not, as the law of waits has it: warp 3 waits for a later stamp.
+abbrev pub StampKeptUntilFetched : Type 0
+StampKeptUntilFetched = Leads (sample_run lost_holder).machine (sample_ledger lost_holder) 3 1
+
+abbrev pub StampTakenEarly : Type 0
+StampTakenEarly = WaitsEnd (run_early lost_holder).machine (ledger_of (run_early lost_holder).events) → ⊥
 
 -- What a wrong machine might commit: both loaded 7, and both stored. No order explains it.
 abbrev pub lost_update : List Transaction
 lost_update =
-    record { stamp = 0; warp = 0; deeds = stored 0 8 ∷ loaded 0 7 at_first ∷ [] }
-    ∷ record { stamp = 0; warp = 1; deeds = stored 0 9 ∷ loaded 0 7 at_first ∷ [] } ∷ []
+    record { stamp = 0; warp = 0; deeds = stored (entry 0 8) ∷ loaded (load_deed 0 7 at_first) ∷ [] }
+    ∷ record { stamp = 0; warp = 1; deeds = stored (entry 0 9) ∷ loaded (load_deed 0 7 at_first) ∷ [] } ∷ []
 
 -- An order explains it if the accounts agree.
 abbrev pub Explains : List ℕ → Type 0

@@ -1,20 +1,28 @@
--- What is promised of every run of a new machine: the law of accounts and the law of waits.
-use Rattle.std.specs.Prelude.{◌≡◌, ℕ, zero, suc, ◌<◌, Bool, true, false, List, length, Some, None}
+-- What is promised of every run of a new machine: the law of accounts, the law of waits, that an order explains the
+-- run, that the tables tell the account, and that a fetch tells what came out.
+use Rattle.std.specs.Prelude.{◌≡◌, ◌≢◌, ℕ, zero, suc, ◌<◌, Bool, true, false, List, [], ◌∷◌, ◌++◌, length, Ok, Some, None, Option}
 use Rattle.protocol.specs.Limits.{line_limit}
-use Rattle.protocol.specs.declared.answer.Answer.TheVariants.{No}
+use Rattle.protocol.specs.Answers.{answer_of}
+use Rattle.protocol.specs.declared.answer.Answer.{Answer}
+use Rattle.protocol.specs.declared.answer.Answer.TheVariants.{Wait}
+use Rattle.protocol.specs.declared.answer.Outcome.{Outcome}
+use Rattle.protocol.specs.declared.answer.Outcome.TheVariants.{Value, Stored, Gone as Lost}
 use Rattle.protocol.specs.declared.call.Call.{Call}
+use Rattle.protocol.specs.declared.call.Op.TheVariants.{Fetch}
 use Rattle.protocol.specs.declared.fault.Fault.{Fault}
 use Rattle.memory.specs.Lines.{Lines}
 use Rattle.book.specs.Meaning.{Kind, Keeps}
+use Rattle.rules.specs.declared.state.Access.TheVariants.{Read, Write}
 use Rattle.rules.specs.declared.state.Request.{Request}
 use Rattle.rules.specs.Lists.{has}
-use Rattle.rules.specs.State.{is_idle, Machine, warp_row_of, is_waiting}
+use Rattle.rules.specs.Logs.{entry}
+use Rattle.rules.specs.State.{is_idle, Machine, Settling, warp_row_of, is_waiting}
 use Rattle.rules.specs.Queue.{Policy, request_of, product}
 use Rattle.rules.specs.Refusals.{fault_of}
-use Rattle.rules.specs.Steps.{answers, step}
+use Rattle.rules.specs.Steps.{refuses, step}
 use Rattle.rules.specs.Making.{making_fault, make}
-use Rattle.rules.specs.Runs.{Run, run}
-use Rattle.rules.specs.Transactions.{stores_of, times_stored, Transaction, writes}
+use Rattle.rules.specs.Runs.{Event, Run, run, settlings, last_settling}
+use Rattle.rules.specs.Transactions.{stores_of, times_stored, Found, Deed, loaded, stored, load_deed, Transaction, writes}
 use Rattle.rules.specs.Ledger.{Ledger, ledger_of}
 use Rattle.rules.specs.Account.{account_of, alone, EachOnce, EqualAccounts}
 use Rattle.rules.specs.LogicalTime.{InLogicalOrder}
@@ -28,6 +36,46 @@ AccountsAgree first_memory l last_memory =
     (order : List ℕ) → EachOnce order n
     → (EqualAccounts n (account_of txs last_memory) (alone first_memory txs order) → InLogicalOrder txs order)
     × (InLogicalOrder txs order → EqualAccounts n (account_of txs last_memory) (alone first_memory txs order))
+
+-- Some order explains the committed transactions: run alone in it, once each, they give the machine's account.
+abbrev pub Explained : Lines → Ledger → Lines → Type 0
+Explained first_memory l last_memory =
+    let txs = l.committed in
+    let n = length txs in
+    (order : List ℕ) × EachOnce order n × EqualAccounts n (account_of txs last_memory) (alone first_memory txs order)
+
+-- The latest thing that a transaction did, if there is one, after whatever it did before.
+abbrev pub DidLast : Option Transaction → Deed → Type 0
+DidLast current deed = (tx : Transaction) × (rest : List Deed) × (current ≡ Some tx) × (tx.deeds ≡ deed ∷ rest)
+
+-- A request that came out has joined its warp's transaction: a load with its value, a store with the value that it was
+-- to store; one that came out as gone joins nothing, and its transaction is not ended yet.
+abbrev pub Joined : Option Transaction → Settling → Outcome → Type 0
+Joined current s (Value value) =
+    (found : Found) × (s.access ≡ Read) × DidLast current (loaded (load_deed s.line value found))
+Joined current s Stored =
+    (value : ℕ) × (s.access ≡ Write value) × DidLast current (stored (entry s.line value))
+Joined current s (Lost cause next) = (tx : Transaction) × (current ≡ Some tx)
+
+-- What a fetch is told after some events: the outcome of its warp's request that came out last, as it joined the
+-- account at the call that let it come out. Nothing joined its warp's transaction since.
+pub record FetchTold (before : List Event) (w : ℕ) (answer : Answer) : Type 0 where
+  pub earlier : List Event
+  pub let_out : Event
+  pub since : List Event
+  pub in_turn : before ≡ earlier ++ let_out ∷ since
+  pub settling : Settling
+  pub came_out : last_settling let_out.settled w ≡ Some settling
+  pub none_since : last_settling (settlings since) w ≡ None
+  pub told : answer ≡ answer_of settling.outcome
+  pub joined : Joined ((ledger_of (earlier ++ let_out ∷ [])).current w) settling settling.outcome
+  pub stays : (ledger_of before).current w ≡ (ledger_of (earlier ++ let_out ∷ [])).current w
+
+-- Every fetch that is neither refused nor told to wait is told so.
+abbrev pub FetchesTell : List Event → Type 0
+FetchesTell events =
+    (before : List Event) (e : Event) (after : List Event) → events ≡ before ++ e ∷ after → e.call.op ≡ Fetch
+    → (answer : Answer) → e.answer ≡ Ok answer → answer ≢ Wait → FetchTold before e.call.warp answer
 
 -- A warp whose transaction, not yet ended, stored to a line holds it.
 abbrev pub Holds : Ledger → ℕ → ℕ → Type 0
@@ -75,9 +123,10 @@ Covers {k} policy =
     (m : Machine k) (w : ℕ) (r : Request) → request_of m.queue w ≡ Some r
     → has w (policy.turns m r.line) ≡ true
 
--- Both laws, of one run from a first memory.
+-- Both laws, of one run from a first memory; and so some order explains it.
 pub record Lawful {k : Kind} (first_memory : Lines) (r : Run k) : Type 0 where
   pub accounts : AccountsAgree first_memory (ledger_of r.events) r.machine.lines
+  pub explained : Explained first_memory (ledger_of r.events) r.machine.lines
   pub waits : WaitsEnd r.machine (ledger_of r.events)
 
 module _ (k : Kind) where
@@ -89,6 +138,20 @@ module _ (k : Kind) where
       → (stamps : List ℕ) (calls : List Call)
       → (let r = run policy (make k lines book stamps) calls in
       AccountsAgree lines (ledger_of r.events) r.machine.lines)
+
+  -- Some order explains every such run: that of logical time.
+  abbrev pub LawOfExplanation : Type 0
+  LawOfExplanation =
+      Keeps k → (policy : Policy k) (lines : Lines) (book : k.State) → k.Good book
+      → (stamps : List ℕ) (calls : List Call)
+      → (let r = run policy (make k lines book stamps) calls in
+      Explained lines (ledger_of r.events) r.machine.lines)
+
+  -- What a fetch answers in any run of a new machine over any book.
+  abbrev pub LawOfFetches : Type 0
+  LawOfFetches =
+      (policy : Policy k) (lines : Lines) (book : k.State) (stamps : List ℕ) (calls : List Call)
+      → FetchesTell (run policy (make k lines book stamps) calls).events
 
   -- The law of waits, likewise, for any order of tries that covers the waiting requests.
   abbrev pub LawOfWaits : Type 0
@@ -117,4 +180,4 @@ module _ (k : Kind) where
   abbrev pub RefusalsChangeNothing : Type 0
   RefusalsChangeNothing =
       (policy : Policy k) (m : Machine k) (call : Call) (fault : Fault) → fault_of m call ≡ Some fault
-      → step policy m call ≡ answers m (No fault)
+      → step policy m call ≡ refuses m fault

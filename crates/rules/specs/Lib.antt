@@ -1,4 +1,5 @@
 pub mod Lists
+pub mod Logs
 pub mod State
 pub mod Access
 pub mod Queue

@@ -1,4 +1,4 @@
--- Words for lists of numbers and of stores.
+-- Words for lists of numbers.
 use Rattle.std.specs.Prelude.{ℕ, zero, suc, ◌+◌, Bool, false, cond, ◌||◌, List, [], ◌∷◌, ◌++◌, Some, None, fold, Option, ◌==◌}
 
 -- A number stands in a list.
@@ -31,7 +31,3 @@ occurrences n (x ∷ xs) = cond (x == n) 1 0 + occurrences n xs
 abbrev pub stands_before : List ℕ → ℕ → ℕ → Bool
 stands_before [] a b = false
 stands_before (x ∷ xs) a b = cond (x == a) (has b xs) (stands_before xs a b)
-
--- The last value stored to a line, among stores in the order made.
-abbrev pub last_stored : List (ℕ × ℕ) → ℕ → Option ℕ
-last_stored stores line = fold (λ found s. cond (s.0 == line) (Some s.1) found) None stores

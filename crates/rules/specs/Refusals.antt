@@ -5,36 +5,47 @@ use Rattle.protocol.specs.Faults.{fault_in_call}
 use Rattle.protocol.specs.Limits.{line_limit, log_limit, last_stamp}
 use Rattle.protocol.specs.declared.call.Call.{Call}
 use Rattle.protocol.specs.declared.call.Op.{Op}
-use Rattle.protocol.specs.declared.call.Op.TheVariants.{Begin, Load, Store, Fetch}
+use Rattle.protocol.specs.declared.call.Op.TheVariants.{Begin, Load, Store, Commit, Drop, Fetch}
 use Rattle.protocol.specs.declared.fault.Fault.{Fault}
 use Rattle.protocol.specs.declared.fault.Refusal.{Refusal}
 use Rattle.protocol.specs.declared.fault.Refusal.TheVariants.{NoSuchWarp, WarpIdle, WarpNotIdle, OutcomePending}
 use Rattle.protocol.specs.declared.fault.Refusal.TheVariants.{NothingToFetch, NoSuchLine, LogFull, ClockSpent}
 use Rattle.book.specs.Meaning.{Kind}
 use Rattle.rules.specs.declared.state.Phase.{Phase}
-use Rattle.rules.specs.declared.state.Phase.TheVariants.{Idle, Open}
+use Rattle.rules.specs.declared.state.Phase.TheVariants.{Idle, Open, Waiting, Settled}
 use Rattle.rules.specs.State.{Machine, warp_row_of}
 
 -- What a warp may not ask for while it has no transaction, while it may go on, and while the outcome of a load or a
 -- store that had to wait is not fetched.
 abbrev pub idle_refuses : Op → Option Refusal
 idle_refuses Begin = None
-idle_refuses op = Some WarpIdle
+idle_refuses (Load line) = Some WarpIdle
+idle_refuses (Store line value) = Some WarpIdle
+idle_refuses Commit = Some WarpIdle
+idle_refuses Drop = Some WarpIdle
+idle_refuses Fetch = Some WarpIdle
 
 abbrev pub open_refuses : Op → Option Refusal
 open_refuses Begin = Some WarpNotIdle
+open_refuses (Load line) = None
+open_refuses (Store line value) = None
+open_refuses Commit = None
+open_refuses Drop = None
 open_refuses Fetch = Some NothingToFetch
-open_refuses op = None
 
 abbrev pub pending_refuses : Op → Option Refusal
 pending_refuses Begin = Some WarpNotIdle
+pending_refuses (Load line) = Some OutcomePending
+pending_refuses (Store line value) = Some OutcomePending
+pending_refuses Commit = Some OutcomePending
+pending_refuses Drop = Some OutcomePending
 pending_refuses Fetch = None
-pending_refuses op = Some OutcomePending
 
 abbrev pub phase_refuses : Phase → Op → Option Refusal
 phase_refuses Idle op = idle_refuses op
 phase_refuses Open op = open_refuses op
-phase_refuses phase op = pending_refuses op
+phase_refuses Waiting op = pending_refuses op
+phase_refuses (Settled outcome) op = pending_refuses op
 
 -- A refusal, if there is one, as it is told: with the layer that tells it and the offending number.
 abbrev pub faulty : Option Refusal → ℕ → Option Fault
@@ -57,7 +68,9 @@ module _ {k : Kind} where
   number_fault m w (Store line value) =
       option_or (unless (has_line m line) NoSuchLine line)
       (unless (nat_lt (length (warp_row_of m w).log) log_limit) LogFull (length (warp_row_of m w).log))
-  number_fault m w op = None
+  number_fault m w Commit = None
+  number_fault m w Drop = None
+  number_fault m w Fetch = None
 
   -- All refusals, in the order of their numbers: the first is told.
   abbrev pub fault_of : Machine k → Call → Option Fault

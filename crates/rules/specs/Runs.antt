@@ -1,17 +1,18 @@
 -- Runs: calls turned one after another, with what each one answered and settled.
-use Rattle.std.specs.Prelude.{ℕ, List, [], ◌∷◌, ◌++◌, fold}
+use Rattle.std.specs.Prelude.{ℕ, cond, List, [], ◌∷◌, ◌++◌, Some, None, fold, Option, Result, ◌==◌}
 use Rattle.protocol.specs.declared.answer.Answer.{Answer}
 use Rattle.protocol.specs.declared.call.Call.{Call}
+use Rattle.protocol.specs.declared.fault.Fault.{Fault}
 use Rattle.book.specs.Meaning.{Kind}
 use Rattle.rules.specs.State.{Machine, Settling, warp_row_of}
 use Rattle.rules.specs.Queue.{Policy}
 use Rattle.rules.specs.Steps.{step}
 
--- What a call was, at which stamp its warp stood, what was answered, and what came out of the queue.
+-- What a call was, at which stamp its warp stood, what was answered or refused, and what came out of the queue.
 pub record Event : Type 0 where
   pub call : Call
   pub stamp : ℕ
-  pub answer : Answer
+  pub answer : Result Answer Fault
   pub settled : List Settling
 
 -- What calls leave: the machine, and what happened, in turn.
@@ -38,3 +39,11 @@ module _ {k : Kind} where
   -- All calls, from a machine on.
   abbrev pub run : Policy k → Machine k → List Call → Run k
   run policy m calls = fold (goes_on policy) (record { machine = m; events = [] }) calls
+
+-- All requests that came out in some events, in turn, and the last of them that was a warp's.
+abbrev pub settlings : List Event → List Settling
+settlings [] = []
+settlings (e ∷ events) = e.settled ++ settlings events
+
+abbrev pub last_settling : List Settling → ℕ → Option Settling
+last_settling settled w = fold (λ found (s : Settling). cond (s.warp == w) (Some s) found) None settled

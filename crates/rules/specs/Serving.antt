@@ -7,7 +7,7 @@ use Rattle.protocol.specs.declared.answer.Outcome.TheVariants.{Value, Stored}
 use Rattle.book.specs.Meaning.{Kind, noted, taken, added}
 use Rattle.rules.specs.declared.state.Access.{Access}
 use Rattle.rules.specs.declared.state.Access.TheVariants.{Read, Write}
-use Rattle.rules.specs.Lists.{last_stored}
+use Rattle.rules.specs.Logs.{last_stored}
 use Rattle.rules.specs.State.{Machine, logging, warp_row_of, time_of, with_book, with_warp_row}
 
 -- What a served load or store leaves.

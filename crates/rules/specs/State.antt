@@ -6,15 +6,16 @@ use Rattle.book.specs.Meaning.{Kind}
 use Rattle.book.specs.Time.{Time}
 use Rattle.rules.specs.declared.state.Access.{Access}
 use Rattle.rules.specs.declared.state.Phase.{Phase}
-use Rattle.rules.specs.declared.state.Phase.TheVariants.{Idle, Open, Waiting}
+use Rattle.rules.specs.declared.state.Phase.TheVariants.{Idle, Open, Waiting, Settled}
 use Rattle.rules.specs.declared.state.Request.{Request}
+use Rattle.rules.specs.Logs.{LogEntry, entry}
 
 -- A warp's row: what it is doing; its stamp, by which its transactions are ordered in logical time; and its log: what
--- its transaction stored, line and value, in the order made.
+-- its transaction stored, in the order made.
 pub record WarpRow : Type 0 where
   pub phase : Phase
   pub stamp : ℕ
-  pub log : List (ℕ × ℕ)
+  pub log : List LogEntry
 
 -- The machine: what each line of its memory holds, the state of its book, which tells who may still load or store a
 -- line, a row for each warp, and the requests that wait, in the order in which they came.
@@ -42,18 +43,22 @@ open_at stamp = record { phase = Open; stamp = stamp; log = [] }
 -- What a phase says.
 abbrev pub is_idle : Phase → Bool
 is_idle Idle = true
-is_idle phase = false
+is_idle Open = false
+is_idle Waiting = false
+is_idle (Settled outcome) = false
 
 abbrev pub is_waiting : Phase → Bool
+is_waiting Idle = false
+is_waiting Open = false
 is_waiting Waiting = true
-is_waiting phase = false
+is_waiting (Settled outcome) = false
 
 -- A row in another phase; a row with one store more.
 abbrev pub in_phase : WarpRow → Phase → WarpRow
 in_phase warp_row phase = record warp_row { phase = phase }
 
 abbrev pub logging : WarpRow → ℕ → ℕ → WarpRow
-logging warp_row line value = record warp_row { log = warp_row.log ++ (line, value) ∷ [] }
+logging warp_row line value = record warp_row { log = warp_row.log ++ entry line value ∷ [] }
 
 -- A warp's row, among the rows of all; a warp that the machine lacks is taken for an idle one.
 abbrev pub warp_row_at : List WarpRow → ℕ → WarpRow

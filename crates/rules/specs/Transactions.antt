@@ -1,6 +1,7 @@
 -- Transactions: what they did, and whose store each load found.
 use Rattle.std.specs.Prelude.{ℕ, ◌+◌, Bool, false, cond, ◌||◌, List, [], ◌∷◌, ◌++◌, length, is_some, Some, None, filter, Option, ◌==◌, slice_index_or}
 use Rattle.rules.specs.Lists.{upto}
+use Rattle.rules.specs.Logs.{LogEntry}
 
 -- Whose store a load found: its own transaction's, that of a committed transaction, by its name, or none: the line had
 -- its value from the first memory. The name of a committed transaction is its place among the commits, from 0.
@@ -9,10 +10,19 @@ pub data Found : Type 0 where
   by : ℕ → Found
   at_first : Found
 
--- What a transaction did: a load of a line, with its value and what it found; a store of a value to a line.
+-- A load that a transaction did: its line, the value that it got, and whose store it found.
+pub record LoadDeed : Type 0 where
+  pub line : ℕ
+  pub value : ℕ
+  pub found : Found
+
+-- What a transaction did: a load, or a store.
 pub data Deed : Type 0 where
-  loaded : ℕ → ℕ → Found → Deed
-  stored : ℕ → ℕ → Deed
+  loaded : LoadDeed → Deed
+  stored : LogEntry → Deed
+
+abbrev pub load_deed : ℕ → ℕ → Found → LoadDeed
+load_deed line value found = record { line = line; value = value; found = found }
 
 -- A transaction: its warp's stamp at its begin, its warp, and what it did, the latest first.
 pub record Transaction : Type 0 where
@@ -23,8 +33,8 @@ pub record Transaction : Type 0 where
 -- The value that a transaction last stored to a line, if it stored to it.
 abbrev pub own_store : List Deed → ℕ → Option ℕ
 own_store [] line = None
-own_store (loaded n value found ∷ earlier_deeds) line = own_store earlier_deeds line
-own_store (stored n value ∷ earlier_deeds) line = cond (n == line) (Some value) (own_store earlier_deeds line)
+own_store (loaded d ∷ earlier_deeds) line = own_store earlier_deeds line
+own_store (stored s ∷ earlier_deeds) line = cond (s.line == line) (Some s.value) (own_store earlier_deeds line)
 
 -- It stored to a line; it loaded a line.
 abbrev pub writes : List Deed → ℕ → Bool
@@ -32,20 +42,20 @@ writes deeds line = is_some (own_store deeds line)
 
 abbrev pub reads_line : List Deed → ℕ → Bool
 reads_line [] line = false
-reads_line (loaded n value found ∷ earlier_deeds) line = n == line || reads_line earlier_deeds line
-reads_line (stored n value ∷ earlier_deeds) line = reads_line earlier_deeds line
+reads_line (loaded d ∷ earlier_deeds) line = d.line == line || reads_line earlier_deeds line
+reads_line (stored s ∷ earlier_deeds) line = reads_line earlier_deeds line
 
 -- How often it stored to a line.
 abbrev pub times_stored : List Deed → ℕ → ℕ
 times_stored [] line = 0
-times_stored (loaded n value found ∷ earlier_deeds) line = times_stored earlier_deeds line
-times_stored (stored n value ∷ earlier_deeds) line = cond (n == line) 1 0 + times_stored earlier_deeds line
+times_stored (loaded d ∷ earlier_deeds) line = times_stored earlier_deeds line
+times_stored (stored s ∷ earlier_deeds) line = cond (s.line == line) 1 0 + times_stored earlier_deeds line
 
 -- Its stores, in the order made.
-abbrev pub stores_of : List Deed → List (ℕ × ℕ)
+abbrev pub stores_of : List Deed → List LogEntry
 stores_of [] = []
-stores_of (loaded n value found ∷ earlier_deeds) = stores_of earlier_deeds
-stores_of (stored n value ∷ earlier_deeds) = stores_of earlier_deeds ++ (n, value) ∷ []
+stores_of (loaded d ∷ earlier_deeds) = stores_of earlier_deeds
+stores_of (stored s ∷ earlier_deeds) = stores_of earlier_deeds ++ s ∷ []
 
 -- What a name past all commits is taken for.
 abbrev pub no_transaction : Transaction

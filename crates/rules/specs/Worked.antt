@@ -1,12 +1,13 @@
 -- The worked runs over the exact book: each call with its answer, and what the lines hold in the end.
-use Rattle.std.specs.Prelude.{◌≡◌, ℕ, List, [], ◌∷◌, ◌++◌, map, length, Some, Option}
+use Rattle.std.specs.Prelude.{◌≡◌, ℕ, List, [], ◌∷◌, ◌++◌, map, length, Ok, Err, Result, Some, Option}
 use Rattle.protocol.specs.Faults.{fault_in_call}
 use Rattle.protocol.specs.Limits.{last_stamp}
 use Rattle.protocol.specs.declared.answer.Answer.{Answer}
-use Rattle.protocol.specs.declared.answer.Answer.TheVariants.{Ok, Val, Wait, Gone, No}
+use Rattle.protocol.specs.declared.answer.Answer.TheVariants.{Done, Val, Wait, Gone}
 use Rattle.protocol.specs.declared.answer.Cause.TheVariants.{WrittenLater, ReadLater, QueueFull}
 use Rattle.protocol.specs.declared.call.Call.{Call}
 use Rattle.protocol.specs.declared.call.Op.TheVariants.{Begin, Load, Store, Commit, Fetch}
+use Rattle.protocol.specs.declared.fault.Fault.{Fault}
 use Rattle.protocol.specs.declared.fault.Refusal.TheVariants.{WarpIdle, ClockSpent}
 use Rattle.memory.specs.Lines.{word_lines}
 use Rattle.book.specs.Exact.{exact, exact_new}
@@ -35,11 +36,22 @@ fetch_by w = record { warp = w; op = Fetch }
 abbrev pub exact_run : List ℕ → List ℕ → List Call → Run exact
 exact_run stamps values calls = run (product exact) (make exact (word_lines values) exact_new stamps) calls
 
+-- A row: a call, and its answer or its refusal.
+pub record Row : Type 0 where
+  pub call : Call
+  pub reply : Result Answer Fault
+
+abbrev pub says : Call → Answer → Row
+says call answer = record { call = call; reply = Ok answer }
+
+abbrev pub refuses : Call → Fault → Row
+refuses call fault = record { call = call; reply = Err fault }
+
 -- A worked run: first stamps and line values, each call with its answer, and the line values at the end.
 pub record WorkedRun : Type 0 where
   pub stamps : List ℕ
   pub first_values : List ℕ
-  pub rows : List (Call × Answer)
+  pub rows : List Row
   pub last_values : List ℕ
 
 -- A load meets a line that is written later, and reads what was committed after its warp's next begin.
@@ -49,14 +61,14 @@ reads_after_commit =
       stamps = 0 ∷ 0 ∷ [];
       first_values = 7 ∷ [];
       rows =
-          (begin_by 0, Ok)
-          ∷ (begin_by 1, Ok)
-          ∷ (store_by 0 0 9, Ok)
-          ∷ (load_by 1 0, Gone WrittenLater 2)
-          ∷ (commit_by 0, Ok)
-          ∷ (begin_by 1, Ok)
-          ∷ (load_by 1 0, Val 9)
-          ∷ (load_by 0 0, No (fault_in_call WarpIdle 0))
+          says (begin_by 0) Done
+          ∷ says (begin_by 1) Done
+          ∷ says (store_by 0 0 9) Done
+          ∷ says (load_by 1 0) (Gone WrittenLater 2)
+          ∷ says (commit_by 0) Done
+          ∷ says (begin_by 1) Done
+          ∷ says (load_by 1 0) (Val 9)
+          ∷ refuses (load_by 0 0) (fault_in_call WarpIdle 0)
           ∷ [];
       last_values = 9 ∷ [];
     }
@@ -68,13 +80,13 @@ older_reader =
       stamps = 20 ∷ 10 ∷ [];
       first_values = 100 ∷ 50 ∷ [];
       rows =
-          (begin_by 0, Ok)
-          ∷ (begin_by 1, Ok)
-          ∷ (load_by 0 0, Val 100)
-          ∷ (store_by 0 0 90, Ok)
-          ∷ (load_by 1 1, Val 50)
-          ∷ (store_by 1 1 40, Ok)
-          ∷ (load_by 1 0, Gone WrittenLater 22)
+          says (begin_by 0) Done
+          ∷ says (begin_by 1) Done
+          ∷ says (load_by 0 0) (Val 100)
+          ∷ says (store_by 0 0 90) Done
+          ∷ says (load_by 1 1) (Val 50)
+          ∷ says (store_by 1 1 40) Done
+          ∷ says (load_by 1 0) (Gone WrittenLater 22)
           ∷ [];
       last_values = 100 ∷ 50 ∷ [];
     }
@@ -87,12 +99,12 @@ waits_for_commit =
       first_values = 100 ∷ 50 ∷ [];
       rows =
           older_reader.rows
-          ++ ((load_by 0 1, Val 50)
-          ∷ (store_by 0 1 60, Ok)
-          ∷ (begin_by 1, Ok)
-          ∷ (load_by 1 1, Wait)
-          ∷ (commit_by 0, Ok)
-          ∷ (fetch_by 1, Val 60)
+          ++ (says (load_by 0 1) (Val 50)
+          ∷ says (store_by 0 1 60) Done
+          ∷ says (begin_by 1) Done
+          ∷ says (load_by 1 1) Wait
+          ∷ says (commit_by 0) Done
+          ∷ says (fetch_by 1) (Val 60)
           ∷ []);
       last_values = 90 ∷ 60 ∷ [];
     }
@@ -104,11 +116,11 @@ own_last_commit =
       stamps = 5 ∷ [];
       first_values = 7 ∷ [];
       rows =
-          (begin_by 0, Ok)
-          ∷ (store_by 0 0 8, Ok)
-          ∷ (commit_by 0, Ok)
-          ∷ (begin_by 0, Ok)
-          ∷ (load_by 0 0, Gone WrittenLater 7)
+          says (begin_by 0) Done
+          ∷ says (store_by 0 0 8) Done
+          ∷ says (commit_by 0) Done
+          ∷ says (begin_by 0) Done
+          ∷ says (load_by 0 0) (Gone WrittenLater 7)
           ∷ [];
       last_values = 8 ∷ [];
     }
@@ -120,12 +132,12 @@ two_at_one_stamp =
       stamps = 0 ∷ 0 ∷ [];
       first_values = 1 ∷ 2 ∷ [];
       rows =
-          (begin_by 0, Ok)
-          ∷ (begin_by 1, Ok)
-          ∷ (load_by 0 0, Val 1)
-          ∷ (load_by 1 1, Val 2)
-          ∷ (store_by 0 1 3, Gone ReadLater 1)
-          ∷ (store_by 1 0 4, Ok)
+          says (begin_by 0) Done
+          ∷ says (begin_by 1) Done
+          ∷ says (load_by 0 0) (Val 1)
+          ∷ says (load_by 1 1) (Val 2)
+          ∷ says (store_by 0 1 3) (Gone ReadLater 1)
+          ∷ says (store_by 1 0 4) Done
           ∷ [];
       last_values = 1 ∷ 2 ∷ [];
     }
@@ -137,18 +149,18 @@ line_is_full =
       stamps = 0 ∷ 1 ∷ 1 ∷ 1 ∷ 1 ∷ 1 ∷ [];
       first_values = 7 ∷ [];
       rows =
-          (begin_by 0, Ok)
-          ∷ (begin_by 1, Ok)
-          ∷ (begin_by 2, Ok)
-          ∷ (begin_by 3, Ok)
-          ∷ (begin_by 4, Ok)
-          ∷ (begin_by 5, Ok)
-          ∷ (store_by 0 0 8, Ok)
-          ∷ (load_by 1 0, Wait)
-          ∷ (load_by 2 0, Wait)
-          ∷ (load_by 3 0, Wait)
-          ∷ (load_by 4 0, Wait)
-          ∷ (load_by 5 0, Gone QueueFull 1)
+          says (begin_by 0) Done
+          ∷ says (begin_by 1) Done
+          ∷ says (begin_by 2) Done
+          ∷ says (begin_by 3) Done
+          ∷ says (begin_by 4) Done
+          ∷ says (begin_by 5) Done
+          ∷ says (store_by 0 0 8) Done
+          ∷ says (load_by 1 0) Wait
+          ∷ says (load_by 2 0) Wait
+          ∷ says (load_by 3 0) Wait
+          ∷ says (load_by 4 0) Wait
+          ∷ says (load_by 5 0) (Gone QueueFull 1)
           ∷ [];
       last_values = 7 ∷ [];
     }
@@ -160,15 +172,15 @@ first_to_arrive =
       stamps = 0 ∷ 3 ∷ 3 ∷ [];
       first_values = 7 ∷ [];
       rows =
-          (begin_by 0, Ok)
-          ∷ (begin_by 1, Ok)
-          ∷ (begin_by 2, Ok)
-          ∷ (store_by 0 0 8, Ok)
-          ∷ (store_by 2 0 9, Wait)
-          ∷ (load_by 1 0, Wait)
-          ∷ (commit_by 0, Ok)
-          ∷ (fetch_by 2, Ok)
-          ∷ (fetch_by 1, Gone WrittenLater 5)
+          says (begin_by 0) Done
+          ∷ says (begin_by 1) Done
+          ∷ says (begin_by 2) Done
+          ∷ says (store_by 0 0 8) Done
+          ∷ says (store_by 2 0 9) Wait
+          ∷ says (load_by 1 0) Wait
+          ∷ says (commit_by 0) Done
+          ∷ says (fetch_by 2) Done
+          ∷ says (fetch_by 1) (Gone WrittenLater 5)
           ∷ [];
       last_values = 8 ∷ [];
     }
@@ -180,11 +192,11 @@ end_of_clock =
       stamps = last_stamp ∷ last_stamp ∷ [];
       first_values = 7 ∷ [];
       rows =
-          (begin_by 0, Ok)
-          ∷ (begin_by 1, Ok)
-          ∷ (store_by 0 0 8, Ok)
-          ∷ (load_by 1 0, Gone WrittenLater 1000000002)
-          ∷ (begin_by 1, No (fault_in_call ClockSpent 1000000002))
+          says (begin_by 0) Done
+          ∷ says (begin_by 1) Done
+          ∷ says (store_by 0 0 8) Done
+          ∷ says (load_by 1 0) (Gone WrittenLater 1000000002)
+          ∷ refuses (begin_by 1) (fault_in_call ClockSpent 1000000002)
           ∷ [];
       last_values = 7 ∷ [];
     }
@@ -203,14 +215,14 @@ worked_runs =
     ∷ []
 
 -- What the calls are answered and what each line holds in the end, as the rules turn the run.
-abbrev pub turned : WorkedRun → List Answer × List (Option ℕ)
+abbrev pub turned : WorkedRun → List (Result Answer Fault) × List (Option ℕ)
 turned r =
-    let after = exact_run r.stamps r.first_values (map (λ (row : Call × Answer). row.0) r.rows) in
+    let after = exact_run r.stamps r.first_values (map (λ (row : Row). row.call) r.rows) in
     (map (λ (e : Event). e.answer) after.events, map after.machine.lines (upto (length r.first_values)))
 
 -- The same, as the run says it.
-abbrev pub said : WorkedRun → List Answer × List (Option ℕ)
-said r = (map (λ (row : Call × Answer). row.1) r.rows, map Some r.last_values)
+abbrev pub said : WorkedRun → List (Result Answer Fault) × List (Option ℕ)
+said r = (map (λ (row : Row). row.reply) r.rows, map Some r.last_values)
 
 -- Each worked run is turned as it says.
 abbrev pub WorkedRunsStand : Type 0

@@ -2,10 +2,11 @@
 #![tactic(auto)]
 
 ghost use Rattle.book.specs.Meaning.{Kind};
-ghost use Rattle.rules.specs.Examples.{ChainOfThree, ForgottenWaits, LostUpdateUnexplained};
+ghost use Rattle.rules.specs.Examples.{ChainOfThree, LostUpdateUnexplained};
 ghost use Rattle.rules.specs.Examples.{ReaderThenWriter, SameStamp, SettledLoadFound};
+ghost use Rattle.rules.specs.Examples.{StampKeptUntilFetched, StampTakenEarly};
 ghost use Rattle.rules.specs.Examples.{TwoWriters, WriterThenReader};
-ghost use Rattle.rules.specs.Laws.{LawOfAccounts, LawOfTables, LawOfWaits};
+ghost use Rattle.rules.specs.Laws.{LawOfAccounts, LawOfExplanation, LawOfFetches, LawOfTables, LawOfWaits};
 ghost use Rattle.rules.specs.Laws.{ProductCovers, ProductLawful, RefusalsChangeNothing};
 ghost use Rattle.rules.specs.Worked.{WorkedRunsStand};
 
@@ -21,6 +22,16 @@ pub trait Versions {
 /// logical time among those that clash.
 pub fn accounts_agree<B: Versions>()
     ensures { LawOfAccounts B.Versions.kind }
+{}
+
+/// Some order explains every run: its committed transactions, run alone in that order, give the machine's account.
+pub fn order_explains<B: Versions>()
+    ensures { LawOfExplanation B.Versions.kind }
+{}
+
+/// Every fetch that is answered tells what its warp's request came out with, as it joined the account then.
+pub fn fetches_tell<B: Versions>()
+    ensures { LawOfFetches B.Versions.kind }
 {}
 
 /// From every waiting warp, stamps fall from holder to holder, and fewer steps than there are warps end the wait.
@@ -58,6 +69,7 @@ pub fn definitions_tell()
     ensures stamps { SameStamp }
     ensures settled { SettledLoadFound }
     ensures chain { ChainOfThree }
-    ensures forgotten { ForgottenWaits }
+    ensures kept { StampKeptUntilFetched }
+    ensures early { StampTakenEarly }
     ensures lost { LostUpdateUnexplained }
 {}

@@ -1,7 +1,7 @@
 //! The meanings of a book, checked on what it tells before and after a call.
 use crate::told::Look;
 use book::call::BookCall;
-use book::entry::{can_be, comes_before};
+use book::entry::can_be;
 use protocol::limits::{LINES, STORES};
 
 /// A call that was made of a book, and whether the book granted it.
@@ -22,7 +22,7 @@ impl Made {
         }
         match self.call {
             BookCall::Note { line, time } => stays(before, after)
-                && (line != after.line || !comes_before(after.told.read, time)),
+                && (line != after.line || after.told.read >= time),
             _ if self.call.line() != after.line => stays(before, after),
             BookCall::Reserve { time, .. } => after.stores == 1
                 && after.told.owner == Some(time.1)
@@ -62,11 +62,11 @@ pub fn may(call: BookCall, look: &Look) -> bool {
     }
 }
 
-/// Whether every line has a slot, if fewer lines are reserved than the book has slots. No other line is reserved than
-/// those looked at.
+/// Whether no more lines are reserved than the book has slots, and every line has a slot if fewer are. No other line is
+/// reserved than those looked at.
 pub fn roomy(looks: &[Look], slots: usize) -> bool {
     let reserved = looks.iter().filter(|look| look.stores > 0).count();
-    reserved >= slots || looks.iter().all(|look| look.told.slot)
+    reserved == slots || (reserved < slots && looks.iter().all(|look| look.told.slot))
 }
 
 /// A line's reservation is as it was.
@@ -156,5 +156,6 @@ mod tests {
         assert!(rt; !sound(&look(7, 0, Some(2)), 9) && !sound(&look(7, 1, None), 9));
         assert!(rt; roomy(&[free, free], 16) && !roomy(&[free, full], 16));
         assert!(rt; roomy(&[full, look(8, 1, Some(2))], 1));
+        assert!(rt; !roomy(&[look(7, 1, Some(2)), look(8, 1, Some(2))], 1));
     }
 }

@@ -21,7 +21,7 @@ pub struct Outcome {
     /// How often a line was looked at, and how often the condensed book then told it later than the exact one.
     pub looks: usize,
     pub later: usize,
-    /// Whether both books kept their meanings, and the exact one was never later.
+    /// Whether both books kept their meanings, and the exact one never told a later stamp.
     pub fine: bool,
 }
 
@@ -119,6 +119,9 @@ fn step(
     let is = (Snapshot::of(exact), Snapshot::of(condensed));
     let made = Made { call, granted };
     if !step_kept(made, 4096, &was.0, &is.0) || !step_kept(made, 16, &was.1, &is.1) {
+        return None;
+    }
+    if is.0.latest > is.1.latest {
         return None;
     }
     let later = later_lines(&is.0.looks, &is.1.looks)?;

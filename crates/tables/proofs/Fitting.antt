@@ -1,19 +1,22 @@
 -- How the queue goes on fitting the rows, and that there is room for the request of a warp that does not wait.
-use Rattle.std.proofs.Common.{◌≡◌, ℕ, zero, suc, ◌+◌, ◌<◌, ◌≤◌, Bool, true, false, cond, eqb, ltb, List, [], ◌∷◌, ◌++◌, map, length, get_or, set, is_some, Some, None, Option, eqb-true, sym, refl, ap, ◌∙◌, subst, arith}
-use Rattle.std.specs.List.{remove, position_or_len}
+use Rattle.std.proofs.Common.{◌≡◌, ℕ, zero, suc, ◌+◌, ◌<◌, ◌≤◌, Bool, true, false, cond, ltb, List, [], ◌∷◌, ◌++◌, map, length, get_or, set, is_some, Some, ⊎_elim, sym, refl, ap, ◌∙◌, subst, arith}
+use Rattle.std.proofs.Math.ListN.{get_or-eq_default}
 use Rattle.std.proofs.lemmas.List.{get_or-set_other, length-map, length-set}
 use Rattle.std.proofs.lemmas.Bool.Decides.{nat_tests}
-use Rattle.std.proofs.lemmas.Bool.{and_parts, and_from, both_ways, not-true, not_from_false}
+use Rattle.std.proofs.lemmas.Bool.{cases_lt, and_parts, and_from, both_ways, not-true, not_from_false}
+use Rattle.protocol.specs.Limits.{last_stamp}
 use Rattle.rules.specs.Queue.{request_of, without}
-use Rattle.rules.specs.State.{WarpRow, warp_row_at, in_phase, is_waiting}
+use Rattle.rules.specs.State.{WarpRow, idle_at, warp_row_at, in_phase, is_idle, is_waiting}
 use Rattle.rules.specs.declared.state.Access.{Access}
 use Rattle.rules.specs.declared.state.Access.TheVariants.{Read, Write}
 use Rattle.rules.specs.declared.state.Phase.{Phase}
+use Rattle.rules.specs.declared.state.Phase.TheVariants.{Idle, Open, Waiting, Settled}
 use Rattle.rules.specs.declared.state.Request.{Request}
 use Rattle.tables.proofs.WarpRows.{warp_row_row, log_long}
 use Rattle.tables.specs.Pages.{warp_rows, queued, warp_row, has_room}
+use Rattle.tables.specs.Phases.{is_open, highest_in}
 use Rattle.tables.specs.Rows.{no_row, warp_row_in}
-use Rattle.tables.specs.Sound.{fits, sound, Sound, lone}
+use Rattle.tables.specs.Sound.{fits, sound, Sound}
 use Rattle.tables.specs.declared.row.Row.{Row}
 use Rattle.tables.specs.declared.state.Tables.{Tables}
 
@@ -97,60 +100,13 @@ sound_without rows (r ∷ rest) w s =
     let rest_sound = sound_without rows rest w p.sound_rest in
     grind (arith, nat_tests)
 
--- No warp has two requests, so that its first is all that leaves.
-pub sound_lone : (rows : List Row) (q : List Request) → Sound rows q → lone q ≡ true
-sound_lone rows [] s = refl
-sound_lone rows (r ∷ rest) s =
-    let p = parts rows r rest s in
-    and_from _ _ (not_from_false _ p.alone) (sound_lone rows rest p.sound_rest)
-
-none_leaves : (q : List Request) (w : ℕ) → asks q w ≡ false → q ≡ without q w
+-- A warp without a request takes none out.
+pub none_leaves : (q : List Request) (w : ℕ) → asks q w ≡ false → q ≡ without q w
 none_leaves [] w e = refl
 none_leaves (r ∷ rest) w e =
     let n = asks_none r rest w e in
     let h = none_leaves rest w n.1 in
     grind (arith, nat_tests, n.0)
-
-abbrev pub place_of : List Request → ℕ → ℕ
-place_of q w = position_or_len (λ (r : Request). eqb r.warp w) q
-
-pub found_leaves : (q : List Request) (w : ℕ) → lone q ≡ true → remove q (place_of q w) ≡ without q w
-found_leaves [] w one = refl
-found_leaves (r ∷ rest) w one =
-    let parts = and_parts _ _ one in
-    let h = found_leaves rest w parts.1 in
-    let gone = λ (is : r.warp ≡ w). none_leaves rest w (ap (asks rest) (sym is) ∙ not-true _ parts.0) in
-    by (eqb r.warp w) refl h gone
-  where
-    by :
-        (b : Bool) → eqb r.warp w ≡ b → remove rest (place_of rest w) ≡ without rest w
-        → (r.warp ≡ w → rest ≡ without rest w)
-        → remove (r ∷ rest) (place_of (r ∷ rest) w) ≡ without (r ∷ rest) w
-    by true e h gone = rw e (gone (eqb-true _ _ e))
-    by false e h gone =
-        let next : 1 + place_of rest w ≡ suc (place_of rest w) = omega arith in
-        rw (e, next) (ap (λ xs. r ∷ xs) h)
-
--- A warp that was not found has none.
-pub none_found : (q : List Request) (w : ℕ) → length q ≤ place_of q w → q ≡ without q w
-none_found [] w e = refl
-none_found (r ∷ rest) w e =
-    let h = none_found rest w in
-    by (eqb r.warp w) refl h e
-  where
-    by :
-        (b : Bool) → eqb r.warp w ≡ b → (length rest ≤ place_of rest w → rest ≡ without rest w)
-        → length (r ∷ rest) ≤ place_of (r ∷ rest) w → (r ∷ rest) ≡ without (r ∷ rest) w
-    by true is h e = absurd (let e2 = rw is at e in omega arith)
-    by false is h e = rw is (ap (λ xs. r ∷ xs) (h (let e2 = rw is at e in omega arith)))
-
--- What the search for a place tells.
-module _ (place long : ℕ) (found : Option ℕ) (is : found ≡ cond (ltb place long) (Some place) None) where
-  pub place_found : (n : ℕ) → found ≡ Some n → n ≡ place
-  place_found n e = grind (arith, nat_tests)
-
-  pub no_place : found ≡ None → long ≤ place
-  no_place e = grind (arith, nat_tests)
 
 -- A request may come that fits its row, of a warp that has none.
 asks_push :
@@ -218,7 +174,8 @@ few_requests rows (r ∷ rest) s =
     omega arith
 
 row_waits :
-    (rows : List Row) (w : ℕ) → is_waiting (warp_row_at (map warp_row_in rows) w).phase ≡ false → waits_in rows w ≡ false
+    (rows : List Row) (w : ℕ) → is_waiting (warp_row_at (map warp_row_in rows) w).phase ≡ false
+    → waits_in rows w ≡ false
 row_waits rows w idle = ap (λ (l : WarpRow). is_waiting l.phase) (sym (warp_row_row rows w)) ∙ idle
 
 room_for_one :
@@ -230,7 +187,8 @@ room_for_one rows q w s l e =
     omega arith
 
 -- The room for a request does not hang on the phase.
-pub room_in_phase : (l : WarpRow) (phase : Phase) (access : Access) → has_room (in_phase l phase) access ≡ has_room l access
+pub room_in_phase :
+    (l : WarpRow) (phase : Phase) (access : Access) → has_room (in_phase l phase) access ≡ has_room l access
 room_in_phase l phase Read = refl
 room_in_phase l phase (Write value) = refl
 
@@ -246,6 +204,31 @@ room_of : (row : Row) (access : Access) → fits row access ≡ true → has_roo
 room_of row Read e = refl
 room_of row (Write value) e =
     subst (λ n. ltb n 32 ≡ true) (sym (log_long row)) (and_parts (is_waiting row.phase) _ e).1
+
+-- What a phase that is not idle says.
+open_phase : (phase : Phase) → is_open phase ≡ true → (is_waiting phase ≡ false) × (is_idle phase ≡ false)
+open_phase Idle o = cc
+open_phase Open o = (refl, refl)
+open_phase Waiting o = cc
+open_phase (Settled outcome) o = cc
+
+waiting_phase : (phase : Phase) → is_waiting phase ≡ true → is_idle phase ≡ false
+waiting_phase Idle e = cc
+waiting_phase Open e = refl
+waiting_phase Waiting e = refl
+waiting_phase (Settled outcome) e = refl
+
+highest_busy : (phase : Phase) → is_idle phase ≡ false → highest_in phase ≡ last_stamp
+highest_busy Idle e = cc
+highest_busy Open e = refl
+highest_busy Waiting e = refl
+highest_busy (Settled outcome) e = refl
+
+-- An open warp is one of the table's, and does not wait.
+pub record OpenRow (t : Tables) (w : ℕ) : Type 0 where
+  pub inside : w < length (warp_rows t)
+  pub free : is_waiting (warp_row t w).phase ≡ false
+  pub on_time : (warp_row t w).stamp ≤ last_stamp
 
 -- What the tables' invariant gives.
 module _ (t : Tables) where
@@ -267,6 +250,32 @@ module _ (t : Tables) where
       let room = room_for_one t.rows.items (queued t) w t.sound (omega arith) (row_waits t.rows.items w idle) in
       omega arith
 
+  -- The stamp of a warp with a transaction is not past the end of the clock.
+  pub busy_on_time : (w : ℕ) → is_idle (warp_row t w).phase ≡ false → (warp_row t w).stamp ≤ last_stamp
+  busy_on_time w busy =
+      let row = get_or t.rows.items w no_row in
+      let here = warp_row_row t.rows.items w in
+      let late : (warp_row t w).stamp ≤ highest_in (warp_row t w).phase =
+      subst (λ (l : WarpRow). l.stamp ≤ highest_in l.phase) (sym here) row.on_time in
+      let most = highest_busy (warp_row t w).phase busy in
+      omega arith
+
+  pub waiting_on_time : (w : ℕ) → is_waiting (warp_row t w).phase ≡ true → (warp_row t w).stamp ≤ last_stamp
+  waiting_on_time w e = busy_on_time w (waiting_phase (warp_row t w).phase e)
+
+  open_inside : (w : ℕ) → is_open (warp_row t w).phase ≡ true → w < length (warp_rows t)
+  open_inside w o = ⊎_elim (λ (low : w < length (warp_rows t)). low) past (cases_lt w (length (warp_rows t)))
+    where
+      past : length (warp_rows t) ≤ w → w < length (warp_rows t)
+      past high =
+          let nobody = sym (get_or-eq_default (warp_rows t) (idle_at 0) high) in
+          absurd (both_ways false refl (ap (λ (l : WarpRow). is_open l.phase) nobody ∙ o))
+
+  pub open_row : (w : ℕ) → is_open (warp_row t w).phase ≡ true → OpenRow t w
+  open_row w o =
+      let says = open_phase (warp_row t w).phase o in
+      record { inside = open_inside w o; free = says.0; on_time = busy_on_time w says.1 }
+
   -- The row of a warp without a request may change.
   pub row_set :
       (w : ℕ) (row : Row) → asks (queued t) w ≡ false
@@ -285,5 +294,6 @@ module _ (t : Tables) where
   request_may_come r l none is waits room =
       let here : warp_row_in (get_or t.rows.items r.warp no_row) ≡ l = sym (warp_row_row t.rows.items r.warp) ∙ is in
       sound_push t.rows.items (queued t) r t.sound none
-      (fits_warp_row (get_or t.rows.items r.warp no_row) r.access (ap (λ (x : WarpRow). is_waiting x.phase) here ∙ waits)
+      (fits_warp_row (get_or t.rows.items r.warp no_row) r.access
+      (ap (λ (x : WarpRow). is_waiting x.phase) here ∙ waits)
       (ap (λ (x : WarpRow). has_room x r.access) here ∙ room))

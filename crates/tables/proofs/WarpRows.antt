@@ -3,7 +3,7 @@ use Rattle.std.proofs.Common.{◌≡◌, ℕ, ◌<◌, List, map, length, get_or
 use Rattle.std.proofs.Math.ListN.{get_or-map}
 use Rattle.std.proofs.lemmas.List.{get_or_default, map-set, length-map, length-take-le}
 use Rattle.rules.specs.State.{WarpRow, warp_row_at}
-use Rattle.tables.specs.Rows.{pair_of, warp_row_in, no_row}
+use Rattle.tables.specs.Rows.{entry_of, warp_row_in, no_row}
 use Rattle.tables.specs.declared.row.Row.{Row}
 
 pub warp_row_row : (rows : List Row) (w : ℕ) → warp_row_at (map warp_row_in rows) w ≡ warp_row_in (get_or rows w no_row)
@@ -25,4 +25,4 @@ pub log_long : (row : Row) → length (warp_row_in row).log ≡ row.len
 log_long row =
     let size = row.size in
     let room = row.room in
-    length-map _ pair_of ∙ length-take-le row.len row.stores (omega arith)
+    length-map _ entry_of ∙ length-take-le row.len row.stores (omega arith)

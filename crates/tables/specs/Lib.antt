@@ -1,4 +1,5 @@
 pub mod Lists
+pub mod Phases
 pub mod Rows
 pub mod Sound
 pub mod Pages

@@ -22,8 +22,3 @@ sound rows (r ∷ rest) =
 
 abbrev pub Sound : List Row → List Request → Type 0
 Sound rows queue = sound rows queue ≡ true
-
--- No warp has two requests.
-abbrev pub lone : List Request → Bool
-lone [] = true
-lone (r ∷ rest) = not (is_some (request_of rest r.warp)) && lone rest

@@ -1,6 +1,7 @@
 //! The machine's tables: logs, the warps' rows and the queue.
 #![tactic(auto)]
 
+mod lines;
 pub mod log;
 pub mod making;
 pub mod queue;

@@ -1,18 +1,19 @@
 //! Logs: made from a row after one check, changed by value.
 ghost use Rattle.std.specs.Prelude.{◌≡◌, ◌<◌, ◌≤◌, [], ◌∷◌, ◌++◌, map, length, if◌then◌else◌, Some, None, nat_le, nat_lt};
+ghost use Rattle.std.specs.List.{All};
 ghost use Rattle.std.specs.Option.{option_map};
 ghost use Rattle.protocol.specs.Limits.{line_limit, log_limit};
-ghost use Rattle.rules.specs.Lists.{has, last_stored};
-ghost use Rattle.rules.specs.Ending.{logged_lines};
-ghost use Rattle.tables.specs.Rows.{pair_of, logged, log_of, lines_in, first_stores};
+ghost use Rattle.rules.specs.Logs.{entry, last_stored, logged_lines};
+ghost use Rattle.tables.specs.Rows.{entry_of, logged, log_of};
 
+use crate::lines::push_new;
 use crate::row::{Log, Store};
 use arrayvec::ArrayVec;
 use protocol::limits::STORES;
 
 // By hand, since a derived one is refused beside a ghost field.
 impl Default for Store {
-    ghost is_default = { λ store. pair_of store ≡ (0, 0) };
+    ghost is_default = { λ store. entry_of store ≡ entry 0 0 };
 
     fn default() -> Store {
         Store { line: 0, value: 0 }
@@ -25,7 +26,8 @@ impl Log {
         ensures { log_of result ≡ [] }
     {
         Log {
-            stores: ArrayVec::new(),
+            len: 0,
+            stores: [Store::default(); 32],
         }
     }
 
@@ -37,17 +39,22 @@ impl Log {
         if len > STORES {
             return None;
         }
-        let mut log = Log::new();
-        log.stores.try_extend_from_slice(&stores[..len]).ok()?;
-        Some(log)
+        Some(Log {
+            len,
+            stores: *stores,
+        })
     }
 
     /// The log with one store more, if it has room for it.
     pub fn push(mut self, store: Store) -> Option<Log>
         ensures { option_map log_of result
-            ≡ (if nat_lt (length (log_of self)) log_limit then Some (log_of self ++ pair_of store ∷ []) else None) }
+            ≡ (if nat_lt (length (log_of self)) log_limit then Some (log_of self ++ entry_of store ∷ []) else None) }
     {
-        self.stores.try_push(store).ok()?;
+        if self.len >= STORES {
+            return None;
+        }
+        self.stores[self.len] = store;
+        self.len += 1;
         Some(self)
     }
 
@@ -56,15 +63,15 @@ impl Log {
         ensures value { result ≡ length (log_of self.now) }
         ensures room { result ≤ log_limit }
     {
-        self.stores.len()
+        self.len
     }
 
     /// The stores, in the order made.
     pub fn stores(&self) -> &[Store]
-        ensures value { map pair_of result.now ≡ log_of self.now }
+        ensures value { map entry_of result.now ≡ log_of self.now }
         ensures room { length result.now ≤ log_limit }
     {
-        self.stores.as_slice()
+        &self.stores[..self.len]
     }
 
     /// The last value that was stored to the line, if any.
@@ -81,33 +88,15 @@ impl Log {
         found
     }
 
-    /// Whether a store is of the line.
-    pub fn has_line(&self, line: u32) -> bool
-        ensures { result ≡ has line (lines_in (log_of self.now)) }
+    /// The lines that are stored to, each once, in the order of their first store.
+    pub fn lines(&self) -> ArrayVec<u32, 32>
+        ensures value { result.items ≡ logged_lines (log_of self.now) }
+        ensures inside { All (λ line. line < line_limit) result.items }
     {
-        self.stores.iter().any(|store| store.line == line)
-    }
-
-    /// The first store of each line that is stored to, in their order.
-    pub fn firsts(&self) -> Log
-        ensures stores { log_of result ≡ first_stores (log_of self.now) }
-        ensures lines { lines_in (log_of result) ≡ logged_lines (log_of self.now) }
-    {
-        Log::firsts_of(self.stores())
-    }
-
-    /// The first of some stores for each line that they are of, in their order.
-    pub(crate) fn firsts_of(stores: &[Store]) -> Log
-        requires { length stores.now ≤ log_limit }
-        ensures stores { log_of result ≡ first_stores (map pair_of stores.now) }
-        ensures lines { lines_in (log_of result) ≡ logged_lines (map pair_of stores.now) }
-    {
-        let mut firsts = Log::new();
-        for store in stores {
-            if !firsts.has_line(store.line) {
-                firsts.stores.push(*store);
-            }
+        let mut lines = ArrayVec::new();
+        for store in self.stores() {
+            push_new(&mut lines, store.line);
         }
-        firsts
+        lines
     }
 }

@@ -1,13 +1,11 @@
 //! The requests that wait: who waits for what, and whether there is room for one more.
-ghost use Rattle.std.specs.Prelude.{◌≡◌, ◌<◌, true, [], ◌∷◌, ◌++◌, length, nat_le, nat_lt};
-ghost use Rattle.protocol.specs.Limits.{line_room, queue_room};
-ghost use Rattle.rules.specs.Lists.{push_new, distinct};
+ghost use Rattle.std.specs.Prelude.{◌≡◌, ◌<◌, [], ◌∷◌, ◌++◌, length, nat_lt};
+ghost use Rattle.rules.specs.Lists.{distinct};
 ghost use Rattle.rules.specs.Queue.{request_of, without, requests_on, is_full};
 ghost use Rattle.tables.specs.Lists.{places, place_at, lines_waited};
-ghost use Rattle.tables.specs.Sound.{lone};
 
+use crate::lines::push_new;
 use arrayvec::ArrayVec;
-use protocol::limits::{LINE_ROOM, QUEUE_ROOM};
 use rules::state::Request;
 
 /// At most 32 requests, in the order in which they came.
@@ -16,15 +14,13 @@ pub struct Queue {
     pub(crate) requests: ArrayVec<Request, 32>,
 }
 
-/// One number more, unless it is there.
-#[tactic(auto, using(crate::proofs::Words::number_found))]
-fn push_new(numbers: &mut ArrayVec<u32, 32>, number: u32)
-    requires { length numbers.old.items < 32 }
-    ensures { numbers.new.items ≡ push_new numbers.old.items number }
-{
-    if !numbers.contains(&number) {
-        numbers.push(number);
-    }
+/// How much room the queue has.
+#[derive(Clone, Copy, PartialEq, Eq, Debug)]
+pub struct QueueLimits {
+    /// A line may have so many requests.
+    pub requests_per_line: usize,
+    /// So many lines may have some at once.
+    pub lines: usize,
 }
 
 impl Queue {
@@ -76,22 +72,8 @@ impl Queue {
         self.requests.retain(|request| request.warp != warp);
     }
 
-    /// A warp's request leaves, where no warp has two: so the first that is found is all.
-    pub(crate) fn take_out_one(&mut self, warp: u32)
-        requires { lone (places self.old) ≡ true }
-        ensures { places self.new ≡ without (places self.old) warp }
-    {
-        let found = self
-            .requests
-            .iter()
-            .position(|request| request.warp == warp);
-        if let Some(place) = found {
-            self.requests.remove(place);
-        }
-    }
-
     /// Whether a request waits for a line.
-    pub(crate) fn any_on(&self, line: u32) -> bool
+    pub fn any_on(&self, line: u32) -> bool
         ensures { result ≡ nat_lt 0 (length (requests_on (places self.now) line)) }
     {
         self.requests.iter().any(|request| request.line == line)
@@ -101,40 +83,29 @@ impl Queue {
     pub fn count_on(&self, line: u32) -> usize
         ensures { result ≡ length (requests_on (places self.now) line) }
     {
-        // A plain loop: of `filter` and `count` the compiler makes a branch for each request.
-        let mut count = 0;
-        for request in self.requests.as_slice() {
-            if request.line == line {
-                count += 1;
-            }
-        }
-        count
+        self.requests
+            .iter()
+            .filter(|request| request.line == line)
+            .count()
     }
 
     /// How many lines are waited for.
     pub fn count_lines(&self) -> usize
         ensures { result ≡ length (distinct (lines_waited (places self.now))) }
     {
-        let mut lines: ArrayVec<u32, 32> = ArrayVec::new();
+        let mut lines = ArrayVec::new();
         for request in self.requests.as_slice() {
             push_new(&mut lines, request.line);
         }
         lines.len()
     }
 
-    /// Whether as many lines are waited for as there may be at once. Fewer requests are of fewer lines.
-    fn has_all_lines(&self) -> bool
-        ensures { result ≡ nat_le queue_room (length (distinct (lines_waited (places self.now)))) }
-    {
-        self.len() >= QUEUE_ROOM && self.count_lines() >= QUEUE_ROOM
-    }
-
     /// Whether there is no room for one more request for a line: the line has all that it may have, or it has none
     /// while as many lines as may wait at once have some.
-    pub fn is_full(&self, line: u32) -> bool
-        ensures { result ≡ is_full line_room queue_room (places self.now) line }
+    pub fn is_full(&self, line: u32, limits: QueueLimits) -> bool
+        ensures { result ≡ is_full limits.requests_per_line limits.lines (places self.now) line }
     {
         let here = self.count_on(line);
-        here >= LINE_ROOM || (here == 0 && self.has_all_lines())
+        here >= limits.requests_per_line || (here == 0 && self.count_lines() >= limits.lines)
     }
 }

@@ -1,12 +1,15 @@
 //! What a warp has stored and not yet committed, and its row in the warps' table.
 ghost use Rattle.std.specs.Prelude.{◌≡◌, ◌<◌, ◌≤◌, length};
 ghost use Rattle.protocol.specs.Limits.{line_limit, log_limit};
+ghost use Rattle.tables.specs.Phases.{highest_stamp, highest_in, next_in};
 
-use arrayvec::ArrayVec;
 use rules::state::Phase;
 
+/// No warp's stamp is above this, which is one more than the largest stamp that a book can tell.
+pub const HIGHEST_STAMP: u64 = 4_294_967_296;
+
 /// One store of a transaction, of a line that a book can number.
-#[derive(Clone, Copy)]
+#[derive(Clone, Copy, PartialEq, Eq, Debug)]
 pub struct Store {
     pub line: u32,
     pub value: u32,
@@ -14,9 +17,12 @@ pub struct Store {
 }
 
 /// The stores of a transaction, in the order made. It is changed by value.
-#[derive(Clone, Drop)]
+#[derive(Clone, Copy)]
 pub struct Log {
-    pub(crate) stores: ArrayVec<Store, 32>,
+    pub(crate) len: usize,
+    pub(crate) stores: [Store; 32],
+    ghost size: { length stores ≡ 32 },
+    ghost room: { len ≤ log_limit },
 }
 
 /// A warp's row: what it is doing, its stamp, and its log as plain numbers.
@@ -29,4 +35,6 @@ pub struct Row {
     pub(crate) stores: [Store; 32],
     ghost size: { length stores ≡ 32 },
     ghost room: { len ≤ log_limit },
+    ghost on_time: { stamp ≤ highest_in phase },
+    ghost next_on_time: { next_in phase ≤ highest_stamp },
 }

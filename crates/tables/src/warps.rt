@@ -1,18 +1,19 @@
 //! What the warps are doing, and what changes it.
-ghost use Rattle.std.specs.Prelude.{◌≡◌, ◌<◌, true, false, cond, [], ◌∷◌, ◌++◌, ◌≤◌, map, length, is_some, nat_lt, slice_set, MatchOption};
-ghost use Rattle.protocol.specs.Limits.{line_room, queue_room, log_limit};
-ghost use Rattle.rules.specs.Ending.{logged_lines};
+ghost use Rattle.std.specs.Prelude.{◌≡◌, ◌<◌, ◌≤◌, true, false, cond, [], ◌∷◌, ◌++◌, length, IfSome, MatchOption, is_some, nat_le, nat_lt, slice_set};
+ghost use Rattle.protocol.specs.Limits.{last_stamp};
 ghost use Rattle.rules.specs.Queue.{request_of, requests_on, without, is_full, pending_at};
-ghost use Rattle.rules.specs.State.{idle_at, open_at, in_phase, logging, is_waiting};
+ghost use Rattle.rules.specs.State.{idle_at, open_at, in_phase, logging, is_idle, is_waiting};
 ghost use Rattle.rules.specs.declared.state.Phase.TheVariants.{Open, Waiting, Settled};
 ghost use Rattle.tables.specs.Lists.{place_at};
-ghost use Rattle.tables.specs.Rows.{pair_of, log_of, lines_in, first_stores, warp_row_in};
-ghost use Rattle.tables.specs.Pages.{warp_rows, queued, warp_row, room_for, has_room, unless_waiting, if_room, may_wait};
+ghost use Rattle.tables.specs.Phases.{highest_stamp, highest_in, next_stamp, next_in, is_open, is_settled};
+ghost use Rattle.tables.specs.Rows.{log_of, warp_row_in};
+ghost use Rattle.tables.specs.Pages.{warp_rows, queued, warp_row, room_for, has_room, set_if, may_open, may_rest, may_log, may_wait, may_settle};
 
-use crate::row::{Log, Row, Store};
+use crate::queue::QueueLimits;
+use crate::row::{HIGHEST_STAMP, Log, Row, Store};
 use crate::state::Tables;
 use protocol::answer::Outcome;
-use protocol::limits::STORES;
+use protocol::limits::{LAST_STAMP, STORES};
 use rules::state::{Access, Phase, Request};
 
 // By hand, since a derived one is refused beside a ghost field.
@@ -24,9 +25,20 @@ impl Default for Row {
     }
 }
 
+/// Whether an outcome's next stamp is no higher than a stamp may be.
+fn is_on_time(outcome: Outcome) -> bool
+    ensures { result ≡ nat_le (next_stamp outcome) highest_stamp }
+{
+    match outcome {
+        Outcome::Value { .. } | Outcome::Stored => true,
+        Outcome::Gone { next, .. } => next <= HIGHEST_STAMP,
+    }
+}
+
 impl Row {
     /// The row of a warp without a transaction.
     pub(crate) fn idle(stamp: u64) -> Row
+        requires { stamp ≤ highest_stamp }
         ensures { warp_row_in result ≡ idle_at stamp }
     {
         Row {
@@ -37,23 +49,26 @@ impl Row {
         }
     }
 
-    /// The row's log.
+    /// The row's log, after one check of its length.
     fn log(&self) -> Log
         ensures { log_of result ≡ (warp_row_in self.now).log }
     {
         Log::of(self.len, &self.stores).unwrap()
     }
 
-    /// The stores of the row's log, in the order made.
-    fn logged(&self) -> &[Store]
-        ensures value { map pair_of result.now ≡ (warp_row_in self.now).log }
-        ensures room { length result.now ≤ log_limit }
+    /// A log is written back to the row.
+    fn write_back(&mut self, log: Log)
+        ensures { warp_row_in self.new ≡ record (warp_row_in self.old) { log = log_of log } }
     {
-        &self.stores[..self.len]
+        let Log { len, stores } = log;
+        self.len = len;
+        self.stores = stores;
     }
 
     /// Another phase.
     fn enter(&mut self, phase: Phase)
+        requires stamp { (warp_row_in self.old).stamp ≤ highest_in phase }
+        requires next { next_in phase ≤ highest_stamp }
         ensures { warp_row_in self.new ≡ in_phase (warp_row_in self.old) phase }
     {
         self.phase = phase;
@@ -61,22 +76,13 @@ impl Row {
 
     /// A phase and a stamp, with an empty log.
     fn start(&mut self, phase: Phase, stamp: u64)
+        requires stamp { stamp ≤ highest_in phase }
+        requires next { next_in phase ≤ highest_stamp }
         ensures { warp_row_in self.new ≡ record { phase = phase; stamp = stamp; log = [] } }
     {
         self.phase = phase;
         self.stamp = stamp;
         self.len = 0;
-    }
-
-    /// One store more.
-    fn log_store(&mut self, store: Store)
-        requires { length (warp_row_in self.old).log < log_limit }
-        ensures { warp_row_in self.new ≡ logging (warp_row_in self.old) store.line store.value }
-    {
-        let log = self.log().push(store).unwrap();
-        // Only the new store is written back: those before it stand in the row as they stand in the log.
-        self.stores[self.len] = store;
-        self.len = log.len();
     }
 }
 
@@ -90,21 +96,26 @@ impl Tables {
 
     /// A warp's row, if it has one.
     fn row(&self, warp: u32) -> Option<&Row>
-        ensures { MatchOption result (warp_row self.now warp ≡ idle_at 0) (λ row. warp_row_in row.now ≡ warp_row self.now warp) }
+        ensures { MatchOption result (warp_row self.now warp ≡ idle_at 0)
+            (λ row. warp_row_in row.now ≡ warp_row self.now warp) }
     {
         self.rows.get(warp as usize)
     }
 
     /// What a warp is doing.
     pub fn phase(&self, warp: u32) -> Phase
-        ensures { result ≡ (warp_row self.now warp).phase }
+        ensures value { result ≡ (warp_row self.now warp).phase }
+        ensures next { next_in result ≤ highest_stamp }
     {
         self.row(warp).map_or(Phase::Idle, |row| row.phase)
     }
 
     /// A warp's stamp.
     pub fn stamp(&self, warp: u32) -> u64
-        ensures { result ≡ (warp_row self.now warp).stamp }
+        ensures value { result ≡ (warp_row self.now warp).stamp }
+        ensures highest { result ≤ highest_stamp }
+        // A transaction is not past the end of the clock.
+        ensures on_time { is_idle (warp_row self.now warp).phase ≡ false → result ≤ last_stamp }
     {
         self.row(warp).map_or(0, |row| row.stamp)
     }
@@ -120,29 +131,7 @@ impl Tables {
     pub fn log(&self, warp: u32) -> Log
         ensures { log_of result ≡ (warp_row self.now warp).log }
     {
-        match self.row(warp) {
-            Some(row) => row.log(),
-            None => Log::new(),
-        }
-    }
-
-    /// The stores that a warp has logged, in the order made.
-    pub fn logged(&self, warp: u32) -> &[Store]
-        ensures value { map pair_of result.now ≡ (warp_row self.now warp).log }
-        ensures room { length result.now ≤ log_limit }
-    {
-        match self.row(warp) {
-            Some(row) => row.logged(),
-            None => &[],
-        }
-    }
-
-    /// The first store of each line in a warp's log, in their order.
-    pub fn firsts(&self, warp: u32) -> Log
-        ensures stores { log_of result ≡ first_stores (warp_row self.now warp).log }
-        ensures lines { lines_in (log_of result) ≡ logged_lines (warp_row self.now warp).log }
-    {
-        Log::firsts_of(self.logged(warp))
+        self.row(warp).map_or_else(Log::new, Row::log)
     }
 
     /// A warp's request, if it has one.
@@ -159,13 +148,11 @@ impl Tables {
         self.queue.place(n)
     }
 
-    // A call of its own, so that who seldom asks does without room for a list of lines.
     /// Whether the queue has no room for one more request for a line.
-    #[inline(never)]
-    pub fn is_full(&self, line: u32) -> bool
-        ensures { result ≡ is_full line_room queue_room (queued self.now) line }
+    pub fn is_full(&self, line: u32, limits: QueueLimits) -> bool
+        ensures { result ≡ is_full limits.requests_per_line limits.lines (queued self.now) line }
     {
-        self.queue.is_full(line)
+        self.queue.is_full(line, limits)
     }
 
     /// Whether a request waits for a line.
@@ -179,6 +166,7 @@ impl Tables {
     pub fn pending(&self, warp: u32, line: u32) -> Option<Access>
         ensures value { result ≡ pending_at (warp_rows self.now) (queued self.now) warp line }
         ensures room { room_for (warp_row self.now warp) result ≡ true }
+        ensures on_time { IfSome result (λ _. (warp_row self.now warp).stamp ≤ last_stamp) }
     {
         let Phase::Waiting = self.phase(warp) else {
             return None;
@@ -197,6 +185,13 @@ impl Tables {
         matches!(self.phase(warp), Phase::Waiting)
     }
 
+    /// Whether a warp has a transaction and may go on.
+    fn is_open(&self, warp: u32) -> bool
+        ensures { result ≡ is_open (warp_row self.now warp).phase }
+    {
+        matches!(self.phase(warp), Phase::Open)
+    }
+
     /// Whether a warp's log has room for what is to be done.
     fn has_room(&self, warp: u32, access: Access) -> bool
         ensures { result ≡ has_room (warp_row self.now warp) access }
@@ -207,18 +202,11 @@ impl Tables {
         }
     }
 
-    /// Whether a request may wait: its warp is there, does not wait yet and has room for what it asks for.
-    fn may_wait(&self, request: Request) -> bool
-        ensures { result ≡ may_wait (warp_rows self.now) request }
-    {
-        (request.warp as usize) < self.warps()
-            && !self.waits(request.warp)
-            && self.has_room(request.warp, request.access)
-    }
-
     /// Sets what a warp is doing and its stamp, with an empty log.
     fn start(&mut self, warp: u32, phase: Phase, stamp: u64)
-        requires { is_waiting (warp_row self.old warp).phase ≡ false }
+        requires free { is_waiting (warp_row self.old warp).phase ≡ false }
+        requires stamp { stamp ≤ highest_in phase }
+        requires next { next_in phase ≤ highest_stamp }
         ensures warp_rows { warp_rows self.new
             ≡ slice_set (warp_rows self.old) warp (record { phase = phase; stamp = stamp; log = [] }) }
         ensures queue { queued self.new ≡ queued self.old }
@@ -228,33 +216,38 @@ impl Tables {
         }
     }
 
-    /// Opens a transaction with an empty log. A warp that waits is left as it is.
+    /// Opens a transaction with an empty log. A warp that waits, or whose stamp is past the end of the clock, is left
+    /// as it is.
     pub fn open(&mut self, warp: u32)
         ensures warp_rows { warp_rows self.new
-            ≡ unless_waiting (warp_rows self.old) warp (open_at (warp_row self.old warp).stamp) }
+            ≡ set_if (may_open (warp_row self.old warp)) (warp_rows self.old) warp
+            (open_at (warp_row self.old warp).stamp) }
         ensures queue { queued self.new ≡ queued self.old }
     {
-        if self.waits(warp) {
-            return;
-        }
         let stamp = self.stamp(warp);
-        self.start(warp, Phase::Open, stamp);
+        if !self.waits(warp) && stamp <= u64::from(LAST_STAMP) {
+            self.start(warp, Phase::Open, stamp);
+        }
     }
 
-    /// Ends a transaction: the warp is idle at a stamp. A warp that waits is left as it is.
+    /// Ends a transaction: the warp is idle at a stamp. A warp that waits is left as it is, and so is any at a stamp
+    /// that is too high.
     pub fn rest(&mut self, warp: u32, stamp: u64)
-        ensures warp_rows { warp_rows self.new ≡ unless_waiting (warp_rows self.old) warp (idle_at stamp) }
+        ensures warp_rows { warp_rows self.new
+            ≡ set_if (may_rest (warp_row self.old warp) stamp) (warp_rows self.old) warp
+            (idle_at stamp) }
         ensures queue { queued self.new ≡ queued self.old }
     {
-        if self.waits(warp) {
-            return;
+        if !self.waits(warp) && stamp <= HIGHEST_STAMP {
+            self.start(warp, Phase::Idle, stamp);
         }
-        self.start(warp, Phase::Idle, stamp);
     }
 
     /// Sets what a warp is doing.
     fn enter(&mut self, warp: u32, phase: Phase)
-        requires { is_some (request_of (queued self.old) warp) ≡ false }
+        requires none { is_some (request_of (queued self.old) warp) ≡ false }
+        requires stamp { (warp_row self.old warp).stamp ≤ highest_in phase }
+        requires next { next_in phase ≤ highest_stamp }
         ensures warp_rows { warp_rows self.new
             ≡ slice_set (warp_rows self.old) warp (in_phase (warp_row self.old warp) phase) }
         ensures queue { queued self.new ≡ queued self.old }
@@ -264,46 +257,48 @@ impl Tables {
         }
     }
 
-    /// Lets a warp go on, unless it waits.
+    /// A warp goes on that has an outcome to fetch. Any other warp is left as it is.
     pub fn resume(&mut self, warp: u32)
         ensures warp_rows { warp_rows self.new
-            ≡ unless_waiting (warp_rows self.old) warp (in_phase (warp_row self.old warp) Open) }
+            ≡ set_if (is_settled (warp_row self.old warp).phase) (warp_rows self.old) warp
+            (in_phase (warp_row self.old warp) Open) }
         ensures queue { queued self.new ≡ queued self.old }
     {
-        if self.waits(warp) {
-            return;
+        if let Phase::Settled { .. } = self.phase(warp) {
+            self.enter(warp, Phase::Open);
         }
-        self.enter(warp, Phase::Open);
     }
 
-    /// Logs a store.
-    fn add_store(&mut self, warp: u32, store: Store)
-        requires free { is_waiting (warp_row self.old warp).phase ≡ false }
-        requires room { length (warp_row self.old warp).log < log_limit }
+    /// A log is written back to its warp's row.
+    fn write_back(&mut self, warp: u32, log: Log)
+        requires { is_waiting (warp_row self.old warp).phase ≡ false }
         ensures warp_rows { warp_rows self.new ≡ slice_set (warp_rows self.old) warp
-            (logging (warp_row self.old warp) store.line store.value) }
+            (record (warp_row self.old warp) { log = log_of log }) }
         ensures queue { queued self.new ≡ queued self.old }
     {
         if let Some(row) = self.rows.get_mut(warp as usize) {
-            row.log_store(store);
+            row.write_back(log);
         }
     }
 
     /// Logs a store. A warp that waits, or whose log is full, is left as it is.
     pub fn log_store(&mut self, warp: u32, store: Store)
-        ensures warp_rows { warp_rows self.new ≡ if_room (warp_rows self.old) warp
+        ensures warp_rows { warp_rows self.new
+            ≡ set_if (may_log (warp_row self.old warp)) (warp_rows self.old) warp
             (logging (warp_row self.old warp) store.line store.value) }
         ensures queue { queued self.new ≡ queued self.old }
     {
-        if !self.waits(warp) && self.stored(warp) < STORES {
-            self.add_store(warp, store);
+        if self.waits(warp) {
+            return;
+        }
+        if let Some(log) = self.log(warp).push(store) {
+            self.write_back(warp, log);
         }
     }
 
     /// A request joins the queue, behind all others, and its warp waits.
     fn join_queue(&mut self, request: Request)
-        requires inside { request.warp < length (warp_rows self.old) }
-        requires free { is_waiting (warp_row self.old request.warp).phase ≡ false }
+        requires open { is_open (warp_row self.old request.warp).phase ≡ true }
         requires room { has_room (warp_row self.old request.warp) request.access ≡ true }
         ensures warp_rows { warp_rows self.new ≡ slice_set (warp_rows self.old) request.warp
             (in_phase (warp_row self.old request.warp) Waiting) }
@@ -313,27 +308,45 @@ impl Tables {
         self.queue.push(request);
     }
 
-    /// Lets a request wait, behind all others, if it may.
+    /// Lets a request wait, behind all others. Where its warp is not open, or has no room for what is asked for, all is
+    /// left as it is.
     pub fn wait(&mut self, request: Request)
-        ensures warp_rows { warp_rows self.new ≡ cond (may_wait (warp_rows self.old) request)
-            (slice_set (warp_rows self.old) request.warp (in_phase (warp_row self.old request.warp) Waiting))
-            (warp_rows self.old) }
-        ensures queue { queued self.new ≡ cond (may_wait (warp_rows self.old) request)
+        ensures warp_rows { warp_rows self.new
+            ≡ set_if (may_wait (warp_row self.old request.warp) request.access) (warp_rows self.old)
+            request.warp (in_phase (warp_row self.old request.warp) Waiting) }
+        ensures queue { queued self.new
+            ≡ cond (may_wait (warp_row self.old request.warp) request.access)
             (queued self.old ++ request ∷ []) (queued self.old) }
     {
-        if self.may_wait(request) {
+        if self.is_open(request.warp) && self.has_room(request.warp, request.access) {
             self.join_queue(request);
         }
     }
 
-    /// A request comes out: it leaves the queue, and its warp has an outcome to fetch.
-    #[inline(always)]
-    pub fn settle(&mut self, warp: u32, outcome: Outcome)
-        ensures warp_rows { warp_rows self.new ≡ slice_set (warp_rows self.old) warp
-            (in_phase (warp_row self.old warp) (Settled outcome)) }
+    /// A warp's request leaves the queue, and the warp is open again. A warp that does not wait is left as it is.
+    pub fn withdraw(&mut self, warp: u32)
+        ensures warp_rows { warp_rows self.new
+            ≡ set_if (is_waiting (warp_row self.old warp).phase) (warp_rows self.old) warp
+            (in_phase (warp_row self.old warp) Open) }
+        // A warp that does not wait has no request that could leave.
         ensures queue { queued self.new ≡ without (queued self.old) warp }
     {
-        self.queue.take_out_one(warp);
-        self.enter(warp, Phase::Settled { outcome });
+        if self.waits(warp) {
+            self.queue.take_out(warp);
+            self.enter(warp, Phase::Open);
+        }
+    }
+
+    /// An open warp gets an outcome to fetch. Any other warp is left as it is, and so is any at an outcome whose next
+    /// stamp is too high.
+    pub fn settle(&mut self, warp: u32, outcome: Outcome)
+        ensures warp_rows { warp_rows self.new
+            ≡ set_if (may_settle (warp_row self.old warp) outcome) (warp_rows self.old) warp
+            (in_phase (warp_row self.old warp) (Settled outcome)) }
+        ensures queue { queued self.new ≡ queued self.old }
+    {
+        if self.is_open(warp) && is_on_time(outcome) {
+            self.enter(warp, Phase::Settled { outcome });
+        }
     }
 }

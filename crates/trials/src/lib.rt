@@ -6,6 +6,8 @@ mod asked;
 #[cfg(test)]
 mod banks;
 #[cfg(test)]
+mod lent;
+#[cfg(test)]
 mod logs;
 #[cfg(test)]
 mod making;

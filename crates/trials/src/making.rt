@@ -1,10 +1,9 @@
 //! Shapes that are refused. No call finds a warp then.
-use crate::rows::{Row, tell, turns};
+use crate::rows::{Row, tell_fault, turns};
 use book::exact::ExactBook;
 use book::record::Book;
 use machine::state::Machine;
 use memory::word::WordMemory;
-use protocol::answer::Answer;
 use std::alloc::Global;
 use std::process::Abort;
 use std::test::Fail;
@@ -36,7 +35,7 @@ fn refuses(
     let memory = WordMemory { words: &mut words };
     let (mut machine, shape) = Machine::make(memory, book, stamps);
     let fault = shape.err().ok_or("the shape is taken")?;
-    let told = tell(heap, Answer::No { fault })?;
+    let told = tell_fault(heap, fault)?;
     assert_eq!(rt; told.as_str(), refusal);
     assert!(rt; machine.warps() == 0);
     turns(rt, heap, &mut machine, &NO_WARP)

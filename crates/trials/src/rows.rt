@@ -1,7 +1,7 @@
-//! Rows of calls with their answers, and how they are turned.
+//! Rows of calls with their answers, and how they are made.
 use book::exact::ExactBook;
 use book::record::Book;
-use machine::running::run;
+use machine::running::run_to_vec;
 use machine::state::Machine;
 use memory::store::Memory;
 use memory::word::WordMemory;
@@ -24,26 +24,34 @@ fn layer_word(layer: Layer) -> &'static str {
     }
 }
 
-/// An answer in words, a refusal whole.
-pub fn tell(heap: Global, answer: Answer) -> Result<String, AllocError> {
-    match answer {
-        Answer::No { fault } => {
-            let (number, layer) = (fault.refusal.number(), layer_word(fault.layer));
-            format!(in heap; "no {number} {layer} {}", fault.number)
-        }
-        _ => format!(in heap; "{answer}"),
+/// A refusal in words, whole.
+pub fn tell_fault(heap: Global, fault: Fault) -> Result<String, AllocError> {
+    let layer = layer_word(fault.layer);
+    format!(in heap; "{fault} {layer} {}", fault.number)
+}
+
+/// An answer in words, or a refusal.
+fn tell(heap: Global, reply: Result<Answer, Fault>) -> Result<String, AllocError> {
+    match reply {
+        Ok(answer) => format!(in heap; "{answer}"),
+        Err(fault) => tell_fault(heap, fault),
     }
 }
 
-fn call_of(row: &Row) -> Result<Call, Fail> {
+pub fn call_of(row: &Row) -> Result<Call, Fail> {
     let (letter, warp, line, value, _) = *row;
     let op = Op::named(letter, line, value).ok_or("no call has the letter")?;
     Ok(Call { warp, op })
 }
 
-/// The answer is the row's.
-fn answers(rt: &impl Abort, heap: Global, row: &Row, answer: Answer) -> Result<(), Fail> {
-    let told = tell(heap, answer)?;
+/// The answer or the refusal is the row's.
+pub fn answers(
+    rt: &impl Abort,
+    heap: Global,
+    row: &Row,
+    reply: Result<Answer, Fault>,
+) -> Result<(), Fail> {
+    let told = tell(heap, reply)?;
     assert_eq!(rt;
         told.as_str(),
         row.4,
@@ -77,8 +85,7 @@ pub fn turns<M: Memory, B: Book>(
     rows: &[Row],
 ) -> Result<(), Fail> {
     for row in rows {
-        let answer = turn(machine, call_of(row)?).unwrap_or_else(Answer::from);
-        answers(rt, heap, row, answer)?;
+        answers(rt, heap, row, turn(machine, call_of(row)?))?;
     }
     Ok(())
 }
@@ -118,7 +125,8 @@ pub fn leaves(
     Ok(())
 }
 
-fn calls_of(heap: Global, rows: &[Row]) -> Result<Vec<Call>, Fail> {
+/// The calls of some rows.
+pub fn calls_of(heap: Global, rows: &[Row]) -> Result<Vec<Call>, Fail> {
     let mut calls = Vec::new(heap);
     for row in rows {
         calls.push(call_of(row)?)?;
@@ -135,7 +143,7 @@ pub fn runs(
     rows: &[Row],
 ) -> Result<(), Fail> {
     let calls = calls_of(heap, rows)?;
-    let ran = run(
+    let (ran, replies) = run_to_vec(
         heap,
         WordMemory { words },
         ExactBook::new(),
@@ -143,9 +151,9 @@ pub fn runs(
         calls.as_slice(),
     )?;
     assert!(rt; ran.shape.is_ok());
-    assert!(rt; ran.answers.len() == rows.len());
-    for (row, answer) in rows.iter().zip(ran.answers.as_slice()) {
-        answers(rt, heap, row, *answer)?;
+    assert!(rt; replies.len() == rows.len());
+    for (row, reply) in rows.iter().zip(replies.as_slice()) {
+        answers(rt, heap, row, *reply)?;
     }
     Ok(())
 }

@@ -1,9 +1,6 @@
 //! Answers in words, with the causes and the refusals.
-ghost use Rattle.std.specs.Prelude.{◌≡◌, Some};
-ghost use Rattle.wording.specs.Answers.{answer_words, cause_words, refusal_words};
-
 use protocol::answer::{Answer, Cause};
-use protocol::fault::Refusal;
+use protocol::fault::{Fault, Refusal};
 use std::fmt;
 
 /// An answer, printed in words.
@@ -12,10 +9,14 @@ pub struct AnswerInWords {
     pub answer: Answer,
 }
 
+/// What a call comes to, its answer or its refusal, printed in words.
+#[derive(Clone, Copy)]
+pub struct ReplyInWords {
+    pub reply: Result<Answer, Fault>,
+}
+
 /// Why a transaction is gone.
-pub fn cause_words(cause: Cause) -> &'static str
-    ensures { result.now ≡ cause_words cause }
-{
+pub fn cause_words(cause: Cause) -> &'static str {
     match cause {
         Cause::WrittenLater => "a logically later transaction wrote the line",
         Cause::ReadLater => "a logically later transaction read the line",
@@ -25,9 +26,7 @@ pub fn cause_words(cause: Cause) -> &'static str
 }
 
 /// Why a call is refused, or what is wrong with a file.
-pub fn refusal_words(refusal: Refusal) -> &'static str
-    ensures { result.now ≡ refusal_words refusal }
-{
+pub fn refusal_words(refusal: Refusal) -> &'static str {
     match refusal {
         Refusal::NoSuchWarp => "the machine has no such warp",
         Refusal::WarpIdle => "the warp has no transaction",
@@ -49,11 +48,9 @@ pub fn refusal_words(refusal: Refusal) -> &'static str
 }
 
 impl fmt::Display for AnswerInWords {
-    ghost output = { λ words. Some (answer_words words.answer) };
-
     fn fmt<W: fmt::Write>(&self, f: &mut fmt::Formatter<W>) -> fmt::Result {
         match self.answer {
-            Answer::Ok => write!(f, "it is done"),
+            Answer::Done => write!(f, "it is done"),
             Answer::Val { value } => write!(f, "the value is {value}"),
             Answer::Wait => write!(f, "it waits"),
             Answer::Gone { cause, next } => {
@@ -63,7 +60,18 @@ impl fmt::Display for AnswerInWords {
                     cause_words(cause)
                 )
             }
-            Answer::No { fault } => {
+        }
+    }
+}
+
+impl fmt::Display for ReplyInWords {
+    fn fmt<W: fmt::Write>(&self, f: &mut fmt::Formatter<W>) -> fmt::Result {
+        match self.reply {
+            Ok(answer) => {
+                let answer = AnswerInWords { answer };
+                write!(f, "{answer}")
+            }
+            Err(fault) => {
                 let refusal = fault.refusal;
                 write!(
                     f,

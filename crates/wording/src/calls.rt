@@ -1,7 +1,4 @@
 //! Calls in words.
-ghost use Rattle.std.specs.Prelude.{Some};
-ghost use Rattle.wording.specs.Calls.{call_words};
-
 use protocol::call::{Call, Op};
 use std::fmt;
 
@@ -12,8 +9,6 @@ pub struct CallInWords {
 }
 
 impl fmt::Display for CallInWords {
-    ghost output = { λ words. Some (call_words words.call) };
-
     fn fmt<W: fmt::Write>(&self, f: &mut fmt::Formatter<W>) -> fmt::Result {
         let warp = self.call.warp;
         match self.call.op {

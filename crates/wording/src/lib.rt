@@ -1,4 +1,5 @@
-//! What calls, answers, causes and refusals mean, in words.
+//! What calls, answers, causes and refusals mean, in words. The words are held by stored outputs (the
+//! programs `tour` and `every_word`), and by no contract.
 #![tactic(auto)]
 
 pub mod answers;

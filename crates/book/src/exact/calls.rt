@@ -3,79 +3,45 @@ ghost use Rattle.std.specs.Prelude.{◌≡◌, ◌<◌, max};
 ghost use Rattle.protocol.specs.Limits.{line_limit};
 ghost use Rattle.book.specs.Meaning.{New};
 ghost use Rattle.book.specs.Exact.{exact, exact_new, entry_at, with_entry, FitsBy};
-ghost use Rattle.book.specs.Entries.{entry_read};
-ghost use Rattle.book.specs.Kept.{entry_kept, Small};
 ghost use Rattle.book.specs.Pages.{exact_page, good_page};
 ghost use Rattle.book.specs.ExactKeeps.{exact_keeps};
+ghost use Rattle.book.specs.Slots.{OneSlotIsTooFew};
 
 use crate::entry::{Entry, can_be};
-use crate::exact::{ExactBook, Kept};
+use crate::exact::ExactBook;
 use crate::record::Book;
 use crate::refused::Refused;
 use protocol::limits::{LINES, STORES};
 
 impl ExactBook {
     /// A book that tells nothing yet.
+    #[tactic(auto, using(crate::proofs::NewBook::new_book))]
     pub fn new() -> ExactBook
         ensures value { exact_page result ≡ exact_new }
         ensures new { New exact (exact_page result) }
+        ensures example { OneSlotIsTooFew }
     {
-        let entries = [Kept::UNTOUCHED; 4096];
+        let entries = [Entry::UNTOUCHED; 4096];
         ExactBook { entries, latest: 0 }
     }
 
-    /// What the table has of a line; a line without a number is as one that no call named yet.
-    #[inline(always)]
-    fn kept(&self, line: u32) -> Kept
-        ensures { entry_kept result ≡ entry_at (exact_page self.now) line }
-    {
-        let kept = self.entries.get(line as usize).copied();
-        kept.unwrap_or(Kept::UNTOUCHED)
-    }
-
-    /// What the book has of a line.
-    #[inline(always)]
+    /// What the book has of a line; a line without a number is as one that no call named yet.
     fn at(&self, line: u32) -> Entry
-        ensures value { result ≡ entry_at (exact_page self.now) line }
-        ensures small { Small result }
+        ensures { result ≡ entry_at (exact_page self.now) line }
     {
-        self.kept(line).entry()
-    }
-
-    /// Notes a read of a line in the table, and raises the latest stamp where it is earlier.
-    #[inline(always)]
-    fn mark(&mut self, line: u32, time: (u32, u32))
-        requires inside { line < line_limit }
-        requires warp { time.1 < 256 }
-        ensures { exact_page self.new
-            ≡ with_entry (exact_page self.old) line (entry_read (entry_at (exact_page self.old) line) time) time.0 }
-    {
-        self.entries[line as usize].read_at(time);
-        self.latest = self.latest.max(time.0);
-    }
-
-    /// Sets what the table has of a line, and raises the latest stamp where it is earlier.
-    #[inline(always)]
-    fn keep(&mut self, line: u32, kept: Kept, stamp: u32)
-        requires inside { line < line_limit }
-        requires fits { FitsBy (max self.old.latest stamp) (entry_kept kept) }
-        ensures { exact_page self.new
-            ≡ with_entry (exact_page self.old) line (entry_kept kept) stamp }
-    {
-        self.entries[line as usize] = kept;
-        self.latest = self.latest.max(stamp);
+        let entry = self.entries.get(line as usize).copied();
+        entry.unwrap_or(Entry::UNTOUCHED)
     }
 
     /// Sets the entry of a line, and raises the latest stamp where it is earlier.
-    #[inline(always)]
     fn set(&mut self, line: u32, entry: Entry, stamp: u32)
         requires inside { line < line_limit }
         requires fits { FitsBy (max self.old.latest stamp) entry }
-        requires small { Small entry }
         ensures { exact_page self.new
             ≡ with_entry (exact_page self.old) line entry stamp }
     {
-        self.keep(line, Kept::of(entry), stamp);
+        self.entries[line as usize] = entry;
+        self.latest = self.latest.max(stamp);
     }
 }
 
@@ -112,16 +78,14 @@ impl Book for ExactBook {
         self.latest
     }
 
-    #[inline(always)]
     fn note(&mut self, line: u32, time: (u32, u32)) -> Result<(), Refused> {
         if line >= LINES || !can_be(time) {
             return Err(Refused);
         }
-        self.mark(line, time);
+        self.set(line, self.at(line).read_at(time), time.0);
         Ok(())
     }
 
-    #[inline(always)]
     fn reserve(&mut self, line: u32, time: (u32, u32)) -> Result<(), Refused> {
         let entry = self.at(line);
         if line >= LINES || !can_be(time) || entry.stores() > 0 {

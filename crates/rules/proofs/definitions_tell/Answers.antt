@@ -1,5 +1,6 @@
 use Rattle.rules.proofs.Examples.{two_writers_apart, writer_reader_apart, reader_writer_apart, same_stamp_apart}
-use Rattle.rules.proofs.Examples.{settled_load_found, chain_of_three, forgotten_waits, lost_update_unexplained}
+use Rattle.rules.proofs.Examples.{settled_load_found, chain_of_three, stamp_kept, stamp_taken_early}
+use Rattle.rules.proofs.Examples.{lost_update_unexplained}
 use Rattle.rules.proofs.definitions_tell.Goals as goal
 
 pub returns : goal.returns
@@ -11,6 +12,7 @@ returns c =
       stamps = same_stamp_apart;
       settled = settled_load_found;
       chain = chain_of_three;
-      forgotten = forgotten_waits;
+      kept = stamp_kept;
+      early = stamp_taken_early;
       lost = lost_update_unexplained;
     }

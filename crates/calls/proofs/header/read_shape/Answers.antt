@@ -26,9 +26,9 @@ returns-then-warps-eq0 c =
     let bytes = c.args.bytes.now in
     let rest = c.in_ok-rest.rest.now in
     let h = c.in_ok-rest.ensures in
-    let book = named_book _ _ _ _ _ c.try_from.ensures c.map_err.ensures.cases c.in_ok-book.was in
+    let book = named_book _ _ _ _ _ c.try_from.ensures.answer c.map_err.ensures.cases c.in_ok-book.was in
     let some : is_some (book_named (get_or bytes 5 0)) ≡ true =
-    rw (← (h.follows 0), ← c.from.ensures) (ap is_some book) in
+    rw (← (h.follows 0), ← c.from-letter.ensures) (ap is_some book) in
     let w = warps_at bytes rest h.follows c.from-warps.result c.from-warps.ensures in
     let l =
     lines_at bytes rest h.follows c.from-lines.result
@@ -48,8 +48,8 @@ returns c =
     record {
       marks = h.marks;
       version = h.version;
-      book = rw (← (h.follows 0), ← c.from.ensures)
-          (named_book _ _ _ _ _ c.try_from.ensures c.map_err.ensures.cases c.in_ok-book.was);
+      book = rw (← (h.follows 0), ← c.from-letter.ensures)
+          (named_book _ _ _ _ _ c.try_from.ensures.answer c.map_err.ensures.cases c.in_ok-book.was);
       size = grind (arith, nat_tests, tail_length rest 1);
       warps = w;
       lines = l;

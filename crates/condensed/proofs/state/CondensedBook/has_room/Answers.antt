@@ -1,3 +1,4 @@
+-- Some slot may be taken just where one is chosen.
 use Rattle.std.proofs.Common.{sym, ◌∙◌}
 use Rattle.condensed.specs.Pages.{place_at}
 use Rattle.condensed.proofs.Rooms.{one_outside}

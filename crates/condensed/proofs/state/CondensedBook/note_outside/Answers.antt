@@ -5,10 +5,10 @@ use Rattle.condensed.specs.Pages.{condensed_page}
 use Rattle.condensed.specs.CondensedKeeps.{sound_outside}
 use Rattle.condensed.proofs.state.CondensedBook.note_outside.Goals as goal
 
-pub invariant_of-self-clause-sound : goal.invariant_of-self-clause-sound
-invariant_of-self-clause-sound c =
+pub invariant_of-self : goal.invariant_of-self
+invariant_of-self c =
     let b = c.args.self.now in
     let s : Condensed = condensed_page b in
-    let is : page_of b.slots c.raise.new.self.entries c.max-self.result ≡ note_in s c.args.line c.args.time None =
+    let is : page_of b.slots c.raise.new.self.ways c.max-self.result ≡ note_in s c.args.line c.args.time None =
     cc in
-    subst Sound (sym is) (sound_outside s b.sound c.args.line c.args.time)
+    record { sound = subst Sound (sym is) (sound_outside s b.sound c.args.line c.args.time) }

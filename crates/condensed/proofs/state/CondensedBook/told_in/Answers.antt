@@ -8,6 +8,6 @@ pub returns-in-None-clause-bound : goal.returns-in-None-clause-bound
 returns-in-None-clause-bound c =
     let b = c.args.self.now in
     subst (λ x. Bounded x b.latest) (sym c.told.ensures) (
-      told_written b.filter.entries c.indices.result b.latest b.sound.filter_written,
-      told_read b.filter.entries c.indices.result b.latest b.sound.filter_read,
+      told_written b.filter.ways c.indices.result b.latest b.sound.filter_written,
+      told_read b.filter.ways c.indices.result b.latest b.sound.filter_read,
     )

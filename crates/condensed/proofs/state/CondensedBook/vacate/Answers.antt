@@ -6,14 +6,16 @@ use Rattle.condensed.specs.Pages.{condensed_page}
 use Rattle.condensed.specs.CondensedKeeps.{sound_vacated}
 use Rattle.condensed.proofs.state.CondensedBook.vacate.Goals as goal
 
-pub invariant_of-self-clause-sound : goal.invariant_of-self-clause-sound
-invariant_of-self-clause-sound c =
+pub invariant_of-self : goal.invariant_of-self
+invariant_of-self c =
     let b = c.args.self.now in
     let s : Condensed = condensed_page b in
     let inside = c.args.place.inside in
     let sixteen = b.sound.sixteen in
     let room : c.args.place.at < length b.slots = omega arith in
     let slot = get_or_default b.slots c.args.place.at c.index-self-place.result empty room in
-    let after = c.turn_out.ensures ∙ ap (λ x. turned_out b.filter.entries x c.args.line) slot in
-    subst Sound (sym (ap (λ f. page_of b.slots f b.latest) after))
-    (sound_vacated s b.sound c.args.line c.args.place.at)
+    let after = c.turn_out.ensures ∙ ap (λ x. turned_out b.filter.ways x c.args.line) slot in
+    record {
+      sound = subst Sound (sym (ap (λ f. page_of b.slots f b.latest) after))
+          (sound_vacated s b.sound c.args.line c.args.place.at);
+    }

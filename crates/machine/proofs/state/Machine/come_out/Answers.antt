@@ -1,11 +1,19 @@
--- The tables settle the request as the rules do.
-use Rattle.tables.specs.Pages.{warp_rows, queued}
+-- Withdrawn, its warp is open and gets the outcome.
+use Rattle.std.proofs.Common.{ap, ◌∙◌}
+use Rattle.rules.specs.State.{Machine, warp_row_of}
+use Rattle.tables.specs.Phases.{is_open}
 use Rattle.machine.specs.Meaning.{state}
-use Rattle.machine.proofs.Served.{settled_is}
+use Rattle.machine.specs.Moves.{has_outcome}
+use Rattle.machine.proofs.Withdrawn.{comes_out_is, withdrawn_open}
 use Rattle.machine.proofs.state.Machine.come_out.Goals as goal
 
-pub returns : goal.returns
-returns g c =
+pub settle-requires-clause-open : goal.settle-requires-clause-open
+settle-requires-clause-open g c =
     let m = state g.M.Memory.at g.B.Book.kind g.B.Book.model c.args.self.now in
-    settled_is m c.args.warp 0 m (warp_rows c.settle.new.self) (queued c.settle.new.self) c.args.outcome
-    c.settle.ensures.warp_rows c.settle.ensures.queue
+    ap (λ (x : Machine _). is_open (warp_row_of x c.args.warp).phase) c.withdraw.ensures.after
+    ∙ withdrawn_open m c.args.warp c.requires.waiting
+
+pub returns-clause-after : goal.returns-clause-after
+returns-clause-after g c =
+    comes_out_is (state g.M.Memory.at g.B.Book.kind g.B.Book.model c.args.self.now) c.args.warp _ c.args.outcome
+    (c.settle.ensures.after ∙ ap (λ x. has_outcome x c.args.warp c.args.outcome) c.withdraw.ensures.after)

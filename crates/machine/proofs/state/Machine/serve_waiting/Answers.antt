@@ -1,33 +1,51 @@
--- By the access, and then it comes out.
-use Rattle.std.proofs.Common.{ap, ◌∙◌}
-use Rattle.rules.specs.State.{Machine, warp_row_at}
-use Rattle.tables.specs.Pages.{warp_rows, queued}
+-- Withdrawn, its warp is open and keeps its room; served, it is still open, and no next stamp is told.
+use Rattle.std.proofs.Common.{◌≤◌, sym, ap, ◌∙◌, subst}
+use Rattle.rules.specs.State.{Machine, warp_row_of}
+use Rattle.rules.specs.Serving.{serves}
+use Rattle.tables.specs.Phases.{highest_stamp, next_stamp, is_open}
+use Rattle.tables.specs.Pages.{has_room}
 use Rattle.machine.specs.Meaning.{state}
-use Rattle.machine.proofs.Served.{read_through, write_through, settled_free, settled_log, room_for_it}
-use Rattle.machine.proofs.Free.{logged}
+use Rattle.machine.proofs.Withdrawn.{withdrawn_open, withdrawn_room, served_open, served_on_time, through}
 use Rattle.machine.proofs.state.Machine.serve_waiting.Goals as goal
 
-pub returns-in-Read : goal.returns-in-Read
-returns-in-Read g c =
+pub serve-outcome-requires-clause-open : goal.serve-outcome-requires-clause-open
+serve-outcome-requires-clause-open g c =
     let m = state g.M.Memory.at g.B.Book.kind g.B.Book.model c.args.self.now in
-    let mid = state g.M.Memory.at g.B.Book.kind g.B.Book.model c.note.new.self in
-    read_through m c.args.request.warp c.args.request.line mid (warp_rows c.settle.new.self) _
-    c.memory_value-value.result c.args.request.access c.in-Read.is
-    c.note.ensures c.memory_value-value.ensures c.settle.ensures.warp_rows c.settle.ensures.queue
+    let w = c.args.request.warp in
+    ap (λ (x : Machine _). is_open (warp_row_of x w).phase) c.withdraw.ensures.after
+    ∙ withdrawn_open m w c.requires.waiting
 
-pub returns-in-Write : goal.returns-in-Write
-returns-in-Write g c =
+pub serve-outcome-requires-clause-room : goal.serve-outcome-requires-clause-room
+serve-outcome-requires-clause-room g c =
     let m = state g.M.Memory.at g.B.Book.kind g.B.Book.model c.args.self.now in
-    let mid = state g.M.Memory.at g.B.Book.kind g.B.Book.model c.reserve.new.self in
+    let w = c.args.request.warp in
+    let access = c.args.request.access in
+    ap (λ (x : Machine _). has_room (warp_row_of x w) access) c.withdraw.ensures.after
+    ∙ withdrawn_room m w c.requires.waiting access c.requires.room
+
+pub settle-requires-clause-open : goal.settle-requires-clause-open
+settle-requires-clause-open g c =
+    let m = state g.M.Memory.at g.B.Book.kind g.B.Book.model c.args.self.now in
+    let mid = state g.M.Memory.at g.B.Book.kind g.B.Book.model c.withdraw.new.self in
+    let w = c.args.request.warp in
+    ap (λ (x : Machine _). is_open (warp_row_of x w).phase) c.serve-outcome.ensures.after
+    ∙ served_open mid w c.args.request.line c.args.request.access
+    (ap (λ (x : Machine _). is_open (warp_row_of x w).phase) c.withdraw.ensures.after
+    ∙ withdrawn_open m w c.requires.waiting)
+
+pub settle-requires-clause-bound : goal.settle-requires-clause-bound
+settle-requires-clause-bound g c =
+    let mid = state g.M.Memory.at g.B.Book.kind g.B.Book.model c.withdraw.new.self in
+    subst (λ o. next_stamp o ≤ highest_stamp) (sym c.serve-outcome.ensures.answer)
+    (served_on_time mid c.args.request.warp c.args.request.line c.args.request.access)
+
+pub returns-clause-after : goal.returns-clause-after
+returns-clause-after g c =
+    let m = state g.M.Memory.at g.B.Book.kind g.B.Book.model c.args.self.now in
     let w = c.args.request.warp in
     let line = c.args.request.line in
-    let settled = warp_rows c.settle-in-Write.new.self in
-    let log = settled_log m w line mid.warp_rows settled _ c.settle-in-Write.ensures.warp_rows
-    ∙ ap (λ (x : Machine _). (warp_row_at x.warp_rows w).log) c.reserve.ensures in
-    let room = room_for_it m w line settled c.args.request.access c.in-Write.value log c.in-Write.is c.requires.room in
-    let free = settled_free m w line mid.warp_rows settled _ c.settle-in-Write.ensures.warp_rows in
-    write_through m w line mid settled (warp_rows c.log_store.new.self) (queued c.settle-in-Write.new.self) _
-    c.in-Write.value c.args.request.access c.in-Write.is c.reserve.ensures
-    c.settle-in-Write.ensures.warp_rows c.settle-in-Write.ensures.queue
-    (c.log_store.ensures.warp_rows ∙ logged settled w _ room free)
-    c.log_store.ensures.queue
+    let access = c.args.request.access in
+    through m w c.requires.waiting line _ _ access _
+    (c.serve-outcome.ensures.after ∙ ap (λ x. (serves x w line access).machine) c.withdraw.ensures.after)
+    (c.serve-outcome.ensures.answer ∙ ap (λ x. (serves x w line access).outcome) c.withdraw.ensures.after)
+    c.settle.ensures.after

@@ -5,37 +5,37 @@ use Rattle.machine.specs.Verdicts.{verdict_as}
 use Rattle.machine.proofs.Turning.{not_tried, try_by, tried_lost, tried_on, tried_own, tried_again, verdict_here}
 use Rattle.machine.proofs.state.Machine.try_turn.Goals as goal
 
-pub returns-in_default : goal.returns-in_default
-returns-in_default g c =
+pub returns-in_default-clause-after : goal.returns-in_default-clause-after
+returns-in_default-clause-after g c =
     let m = state g.M.Memory.at g.B.Book.kind g.B.Book.model c.args.self.now in
     not_tried m c.args.warp c.args.line c.in_default.ensures.value
 
-pub returns-in-Lost : goal.returns-in-Lost
-returns-in-Lost g c =
+pub returns-in-Lost-clause-after : goal.returns-in-Lost-clause-after
+returns-in-Lost-clause-after g c =
     let m = state g.M.Memory.at g.B.Book.kind g.B.Book.model c.args.self.now in
     let w = c.args.warp in
     let line = c.args.line in
     let access = c.in-Some.access in
-    c.come_out.ensures
+    c.come_out.ensures.after
     ∙ tried_lost m w line access c.in-Lost.cause c.in-Lost.next
     ∙ try_by m w line access _ c.in-Some.ensures.value
-    (verdict_here m w line access _ _ _ _ _ c.meet.ensures.access c.meet.ensures.told
-    c.meet.ensures.time c.meet.ensures.full c.in-Lost.ensures)
+    (verdict_here m w line access _ _ _ _ c.meet.ensures.access c.meet.ensures.told
+    c.meet.ensures.time c.in-Lost.ensures.value)
 
-pub returns-in-GoOn : goal.returns-in-GoOn
-returns-in-GoOn g c =
+pub returns-in-GoOn-clause-after : goal.returns-in-GoOn-clause-after
+returns-in-GoOn-clause-after g c =
     let m = state g.M.Memory.at g.B.Book.kind g.B.Book.model c.args.self.now in
     let w = c.args.warp in
     let line = c.args.line in
     let access = c.in-Some.access in
-    c.serve_waiting.ensures
+    c.serve_waiting.ensures.after
     ∙ tried_on m w line access
     ∙ try_by m w line access _ c.in-Some.ensures.value
-    (verdict_here m w line access _ _ _ _ _ c.meet.ensures.access c.meet.ensures.told
-    c.meet.ensures.time c.meet.ensures.full c.in-GoOn.ensures)
+    (verdict_here m w line access _ _ _ _ c.meet.ensures.access c.meet.ensures.told
+    c.meet.ensures.time c.in-GoOn.ensures.value)
 
-pub returns-in-OwnLine : goal.returns-in-OwnLine
-returns-in-OwnLine g c =
+pub returns-in-OwnLine-clause-after : goal.returns-in-OwnLine-clause-after
+returns-in-OwnLine-clause-after g c =
     let m = state g.M.Memory.at g.B.Book.kind g.B.Book.model c.args.self.now in
     let w = c.args.warp in
     let line = c.args.line in
@@ -43,12 +43,10 @@ returns-in-OwnLine g c =
     ⊎_elim
     (λ is. tried_own m w line access
     ∙ try_by m w line access _ c.in-Some.ensures.value
-    (verdict_here m w line access _ _ _ _ _ c.meet.ensures.access c.meet.ensures.told
-    c.meet.ensures.time c.meet.ensures.full
-    (ap verdict_as (sym is) ∙ c.retried.ensures)))
+    (verdict_here m w line access _ _ _ _ c.meet.ensures.access c.meet.ensures.told
+    c.meet.ensures.time (ap verdict_as (sym is) ∙ c.retried.ensures.value)))
     (λ is. tried_again m w line access
     ∙ try_by m w line access _ c.in-Some.ensures.value
-    (verdict_here m w line access _ _ _ _ _ c.meet.ensures.access c.meet.ensures.told
-    c.meet.ensures.time c.meet.ensures.full
-    (ap verdict_as (sym is) ∙ c.retried.ensures)))
+    (verdict_here m w line access _ _ _ _ c.meet.ensures.access c.meet.ensures.told
+    c.meet.ensures.time (ap verdict_as (sym is) ∙ c.retried.ensures.value)))
     c.in-OwnLine.is

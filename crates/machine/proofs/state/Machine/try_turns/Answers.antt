@@ -1,17 +1,17 @@
 -- The turns had are all.
 use Rattle.std.proofs.Common.{fold, sym, ap, ◌∙◌, arith}
 use Rattle.std.proofs.lemmas.List.{take_all}
-use Rattle.machine.specs.Meaning.{state}
+use Rattle.machine.specs.Meaning.{state, policy_of}
 use Rattle.machine.specs.Moves.{try_at}
 use Rattle.machine.proofs.Turning.{wake_is}
 use Rattle.machine.proofs.state.Machine.try_turns.Goals as goal
 
-pub returns : goal.returns
-returns g c =
+pub returns-clause-after : goal.returns-clause-after
+returns-clause-after g c =
     let m = state g.M.Memory.at g.B.Book.kind g.B.Book.model c.args.self.now in
     let l = c.loop-warp in
     let all = take_all l.warp-index c.as_slice-warp-items.result.now (omega arith) in
-    l.invariant
+    l.invariant.after
     ∙ ap (fold (try_at c.args.line) m)
     (all ∙ c.as_slice-warp-items.ensures.value ∙ c.turns-turns.ensures)
-    ∙ sym (wake_is m c.args.line)
+    ∙ sym (wake_is (policy_of g.B.Book.kind c.args.self.now) m c.args.line)

@@ -5,7 +5,10 @@ use Rattle.machine.specs.Moves.{try_at}
 use Rattle.machine.proofs.state.Machine.try_turns.Given as goal
 
 abbrev pub invariant-loop-warp : goal.invariant-loop-warp
-invariant-loop-warp g l =
-    state g.M.Memory.at g.B.Book.kind g.B.Book.model l.self
-    ≡ fold (try_at l.line) (state g.M.Memory.at g.B.Book.kind g.B.Book.model l.initial.self)
-    (take l.warp-index l.warp-items)
+invariant-loop-warp g l = record {
+  after :
+      state g.M.Memory.at g.B.Book.kind g.B.Book.model l.self
+      ≡ fold (try_at l.line) (state g.M.Memory.at g.B.Book.kind g.B.Book.model l.initial.self)
+      (take l.warp-index l.warp-items);
+  memory : l.self.memory ≡ l.initial.self.memory;
+}

@@ -1,7 +1,11 @@
--- A warp that does not wait has no request.
-use Rattle.std.proofs.Common.{sym, ◌∙◌}
-use Rattle.tables.proofs.Fitting.{free}
+-- A warp with an outcome has no request, and its stamp is not past the end of the clock.
+use Rattle.std.proofs.Common.{ap, sym}
+use Rattle.rules.specs.State.{is_idle, is_waiting}
+use Rattle.tables.proofs.Fitting.{free, busy_on_time}
 use Rattle.tables.proofs.state.Tables.resume.Goals as goal
 
-pub enter-requires : goal.enter-requires
-enter-requires c = free c.args.self.now c.args.warp (sym c.waits.ensures ∙ c.if-waits.false)
+pub enter-requires-clause-none : goal.enter-requires-clause-none
+enter-requires-clause-none c = free c.args.self.now c.args.warp (ap is_waiting (sym c.in-Settled.ensures.value))
+
+pub enter-requires-clause-stamp : goal.enter-requires-clause-stamp
+enter-requires-clause-stamp c = busy_on_time c.args.self.now c.args.warp (ap is_idle (sym c.in-Settled.ensures.value))

@@ -6,7 +6,7 @@ use Rattle.tables.proofs.state.Tables.start.Goals as goal
 pub invariant_of-self : goal.invariant_of-self
 invariant_of-self c =
     let t = c.args.self.now in
-    let set = row_set t c.args.warp c.start.new.self (free t c.args.warp c.requires) in
+    let set = row_set t c.args.warp c.start.new.self (free t c.args.warp c.requires.free) in
     record { count = set.0; sound = set.1 }
 
 pub returns-in-Some-clause-warp_rows : goal.returns-in-Some-clause-warp_rows

@@ -1,0 +1,15 @@
+-- An entry that fits may be set.
+use Rattle.std.proofs.Common.{◌≤◌, sym, subst, arith}
+use Rattle.book.specs.Exact.{FitsBy}
+use Rattle.book.specs.Pages.{exact_page}
+use Rattle.book.specs.ExactKeeps.{good_with}
+use Rattle.book.proofs.exact.ExactBook.set.Goals as goal
+
+pub invariant_of-self : goal.invariant_of-self
+invariant_of-self c =
+    let b = c.args.self.now in
+    let later = c.max-self.result in
+    let up : b.latest ≤ later = omega arith in
+    let fits : FitsBy later c.args.entry = subst (λ m. FitsBy m c.args.entry) (sym c.max-self.ensures)
+    c.requires.fits in
+    record { sound = good_with (exact_page b) b.sound c.args.line c.args.entry later up fits }

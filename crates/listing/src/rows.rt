@@ -1,0 +1,98 @@
+//! The rows of a listing, one after the other. Whether their bytes are text is asked once, of all of them.
+ghost use Rattle.std.specs.Prelude.{◌≡◌, ◌++◌, [], OnOk, IsUtf8, string_bytes};
+ghost use Rattle.listing.specs.Listing.{call_rows, line_row, mem_rows};
+
+use crate::row::Tail;
+use book::record::Book;
+use machine::state::Machine;
+use memory::store::Memory;
+use protocol::answer::Answer;
+use protocol::call::Call;
+use protocol::fault::Fault;
+use std::alloc::{AllocError, Global};
+
+/// The rows so far.
+#[derive(Drop)]
+pub(crate) struct Rows {
+    bytes: Vec<u8>,
+    ghost utf8: { ∥ IsUtf8 bytes.items ∥₁ },
+}
+
+impl Rows {
+    ghost use Rattle.listing.specs.Tail.{tail};
+
+    /// No row yet.
+    pub(crate) fn new(heap: Global) -> Rows
+        ensures { result.bytes.items ≡ [] }
+    {
+        Rows {
+            bytes: Vec::new(heap),
+        }
+    }
+
+    /// One row more.
+    pub(crate) fn add(&mut self, row: &Tail) -> Result<(), AllocError>
+        ensures { OnOk result (self.new.bytes.items ≡ self.old.bytes.items ++ tail row.now) }
+    {
+        self.bytes.extend_from_slice(row.as_bytes())
+    }
+
+    /// A row for each call and what it came to. The calls are the caller's and the answers the run's, so they come as two
+    /// slices.
+    pub(crate) fn add_calls(
+        &mut self,
+        calls: &[Call],
+        answers: &[Result<Answer, Fault>],
+    ) -> Result<(), AllocError>
+        ensures { OnOk result (self.new.bytes.items ≡ self.old.bytes.items ++ call_rows 1 calls.now answers.now) }
+    {
+        let mut row = Tail::new();
+        for (i, (call, answer)) in calls.iter().zip(answers).enumerate() {
+            row.set_call(i as u64 + 1, call, answer);
+            self.add(&row)?;
+        }
+        Ok(())
+    }
+
+    /// A row for each line below a limit that the machine's memory has.
+    pub(crate) fn add_lines<M: Memory, B: Book>(
+        &mut self,
+        machine: &Machine<M, B>,
+        limit: u32,
+    ) -> Result<(), AllocError>
+        ensures { OnOk result (self.new.bytes.items
+            ≡ self.old.bytes.items ++ mem_rows (M.Memory.at machine.now.memory) limit) }
+    {
+        let mut row = Tail::new();
+        for line in 0..limit {
+            self.add_line(&mut row, machine, line)?;
+        }
+        Ok(())
+    }
+
+    // The row of a line, if the memory has it, written where another may have been.
+    fn add_line<M: Memory, B: Book>(
+        &mut self,
+        row: &mut Tail,
+        machine: &Machine<M, B>,
+        line: u32,
+    ) -> Result<(), AllocError>
+        ensures { OnOk result (self.new.bytes.items
+            ≡ self.old.bytes.items ++ line_row line (M.Memory.at machine.now.memory line)) }
+    {
+        match machine.value(line) {
+            Ok(value) => {
+                row.set_line(line, value);
+                self.add(row)
+            }
+            Err(_) => Ok(()),
+        }
+    }
+
+    /// The text of the rows.
+    pub(crate) fn into_text(self) -> String
+        ensures { string_bytes result ≡ self.bytes.items }
+    {
+        String::from_utf8(self.bytes).unwrap()
+    }
+}

@@ -1,0 +1,45 @@
+-- What a warp's phase says of its stamp.
+use Rattle.std.specs.Prelude.{ℕ, ◌^◌, Bool, true, false}
+use Rattle.protocol.specs.Limits.{last_stamp}
+use Rattle.protocol.specs.declared.answer.Outcome.{Outcome}
+use Rattle.protocol.specs.declared.answer.Outcome.TheVariants.{Value, Stored, Gone}
+use Rattle.rules.specs.declared.state.Phase.{Phase}
+use Rattle.rules.specs.declared.state.Phase.TheVariants.{Idle, Open, Waiting, Settled}
+
+-- No stamp is above this, which is one more than the largest stamp that a book can tell.
+abbrev pub highest_stamp : ℕ
+highest_stamp = 2 ^ 32
+
+-- The highest stamp in a phase: no transaction begins past the end of the clock.
+abbrev pub highest_in : Phase → ℕ
+highest_in Idle = highest_stamp
+highest_in Open = last_stamp
+highest_in Waiting = last_stamp
+highest_in (Settled outcome) = last_stamp
+
+-- The next stamp that an outcome tells; 0 for one that tells none.
+abbrev pub next_stamp : Outcome → ℕ
+next_stamp (Value value) = 0
+next_stamp Stored = 0
+next_stamp (Gone cause next) = next
+
+-- The next stamp that a warp is to fetch, if any.
+abbrev pub next_in : Phase → ℕ
+next_in Idle = 0
+next_in Open = 0
+next_in Waiting = 0
+next_in (Settled outcome) = next_stamp outcome
+
+-- The warp has a transaction and may go on.
+abbrev pub is_open : Phase → Bool
+is_open Idle = false
+is_open Open = true
+is_open Waiting = false
+is_open (Settled outcome) = false
+
+-- The warp has an outcome to fetch.
+abbrev pub is_settled : Phase → Bool
+is_settled Idle = false
+is_settled Open = false
+is_settled Waiting = false
+is_settled (Settled outcome) = true

@@ -3,12 +3,12 @@ use Rattle.std.proofs.Common.{◌≡◌, ℕ, ◌+◌, ◌<◌, ◌≤◌, max, 
 use Rattle.std.proofs.lemmas.Bool.{cond-true, and_parts, and_from, lt-ltb, ltb-true, leb-true, leb-false}
 use Rattle.protocol.specs.Limits.{line_limit, log_limit}
 use Rattle.book.specs.Time.{earlier}
-use Rattle.book.specs.Meaning.{Kind, Keeps, New, Grows, can_note, reserved}
-use Rattle.book.specs.Entries.{untouched, entry_read, entry_held, entry_more, entry_freed}
-use Rattle.book.specs.Entries.{stores_told, owner_told, warp_or_first}
+use Rattle.book.specs.Meaning.{Kind, Keeps, IsNew, StampsGrow, can_note, is_reserved}
+use Rattle.book.specs.Entries.{untouched_entry, entry_after_read, entry_after_reserve, entry_after_add, entry_after_release}
+use Rattle.book.specs.Entries.{entry_stores, entry_owner, warp_or_first}
 use Rattle.book.specs.Exact.{Exact, exact, exact_new, entry_at, with_entry}
-use Rattle.book.specs.Earliest.{grants, made, next, next_both, run_both, Earliest}
-use Rattle.book.specs.Grants.{granted}
+use Rattle.book.specs.Earliest.{is_granted, state_after_granted, state_after_call, both_after_call, both_after_calls, IsEarliest}
+use Rattle.book.specs.Grants.{grant_result}
 use Rattle.book.specs.declared.refused.Refused.{Refused}
 use Rattle.book.specs.declared.entry.Entry.{Entry}
 use Rattle.book.specs.declared.call.BookCall.{BookCall}
@@ -23,7 +23,7 @@ Told e = (n : ℕ) × (n < line_limit) × (e.latest ≤ max (entry_at e n).stamp
 
 module _ (e : Exact) (fine : exact.Good e) (line : ℕ) (lt : line < line_limit) (x : Entry) (stamp : ℕ) where
   told_with :
-      Grows exact e (with_entry e line x stamp) → stamp ≤ max x.stamps.write x.stamps.read.0 → Told e
+      StampsGrow exact e (with_entry e line x stamp) → stamp ≤ max x.stamps.write x.stamps.read.0 → Told e
       → Told (with_entry e line x stamp)
   unfolding Told
   told_with grows has told = by (leb stamp e.latest) refl
@@ -46,32 +46,32 @@ module _ (k : Kind) (keeps : Keeps k) where
     fine : exact.Good e
     stamps : (n : ℕ) → n < line_limit → (entry_at e n).stamps.write ≤ k.write_stamp s n
     marks : (n : ℕ) → n < line_limit → earlier (k.read_mark s n) (entry_at e n).stamps.read ≡ false
-    counts : (n : ℕ) → n < line_limit → stores_told (entry_at e n) ≡ k.stores s n
+    counts : (n : ℕ) → n < line_limit → entry_stores (entry_at e n) ≡ k.stores s n
     told : Told e
 
   -- One entry of the exact book is set, as late as the other book tells of the line.
   module _ (s s' : k.State) (e : Exact) (f : Follows s e) (line : ℕ) (lt : line < line_limit) (x : Entry)
       (stamp : ℕ) where
     follows_with :
-        k.Good s' → exact.Good (with_entry e line x stamp) → Grows k s s'
-        → Grows exact e (with_entry e line x stamp) → stamp ≤ max x.stamps.write x.stamps.read.0
+        k.Good s' → exact.Good (with_entry e line x stamp) → StampsGrow k s s'
+        → StampsGrow exact e (with_entry e line x stamp) → stamp ≤ max x.stamps.write x.stamps.read.0
         → x.stamps.write ≤ k.write_stamp s' line → earlier (k.read_mark s' line) x.stamps.read ≡ false
-        → stores_told x ≡ k.stores s' line → ((n : ℕ) → n < line_limit → (n ≡ line → ⊥) → k.stores s' n ≡ k.stores s n)
+        → entry_stores x ≡ k.stores s' line → ((n : ℕ) → n < line_limit → (n ≡ line → ⊥) → k.stores s' n ≡ k.stores s n)
         → Follows s' (with_entry e line x stamp)
     follows_with good fine grows later has w r c same =
         record {
           good = good;
           fine = fine;
-          stamps = λ n l. set_cases (λ y. y.stamps.write ≤ k.write_stamp s' n) e.entries line n x untouched room
+          stamps = λ n l. set_cases (λ y. y.stamps.write ≤ k.write_stamp s' n) e.entries line n x untouched_entry room
               (λ is. subst (λ m. x.stamps.write ≤ k.write_stamp s' m) (sym is) w)
               (λ _. let a = f.stamps n l in let b = grows.stamp_grows n l in omega arith);
           marks = λ n l. set_cases (λ y. earlier (k.read_mark s' n) y.stamps.read ≡ false)
-              e.entries line n x untouched room
+              e.entries line n x untouched_entry room
               (λ is. subst (λ m. earlier (k.read_mark s' m) x.stamps.read ≡ false) (sym is) r)
               (λ _. mark_chain (entry_at e n).stamps.read (k.read_mark s n) (k.read_mark s' n) (f.marks n l)
               (grows.mark_grows n l));
-          counts = λ n l. set_cases (λ y. stores_told y ≡ k.stores s' n) e.entries line n x untouched room
-              (λ is. subst (λ m. stores_told x ≡ k.stores s' m) (sym is) c)
+          counts = λ n l. set_cases (λ y. entry_stores y ≡ k.stores s' n) e.entries line n x untouched_entry room
+              (λ is. subst (λ m. entry_stores x ≡ k.stores s' m) (sym is) c)
               (λ ne. f.counts n l ∙ sym (same n l ne));
           told = told_with e f.fine line lt x stamp later has f.told;
         }
@@ -82,25 +82,25 @@ module _ (k : Kind) (keeps : Keeps k) where
   module _ (s : k.State) (e : Exact) (f : Follows s e) where
     same_count :
         (line : ℕ) → line < line_limit → (P : ℕ → Type 0) → P (k.stores s line)
-        → P (stores_told (entry_at e line))
+        → P (entry_stores (entry_at e line))
     same_count line lt P h = subst P (sym (f.counts line lt)) h
 
-    too : (call : BookCall) → grants k s call ≡ true → grants exact e call ≡ true
+    too : (call : BookCall) → is_granted k s call ≡ true → is_granted exact e call ≡ true
     too (Note line t) can = can
     too (Reserve line t) can =
-        let parts = and_parts (can_note k s line t) (not (reserved k s line) && k.has_slot s line) can in
+        let parts = and_parts (can_note k s line t) (not (is_reserved k s line) && k.has_slot s line) can in
         let lt : line < line_limit = numbered line _ parts.0 in
-        and_from (can_note exact e line t) (not (reserved exact e line) && exact.has_slot e line) parts.0
-        (and_from (not (reserved exact e line)) (exact.has_slot e line)
+        and_from (can_note exact e line t) (not (is_reserved exact e line) && exact.has_slot e line) parts.0
+        (and_from (not (is_reserved exact e line)) (exact.has_slot e line)
         (same_count line lt (λ m. not (not (eqb m 0)) ≡ true)
-        (and_parts (not (reserved k s line)) (k.has_slot s line) parts.1).0)
+        (and_parts (not (is_reserved k s line)) (k.has_slot s line) parts.1).0)
         (lt-ltb line line_limit lt))
     too (Add line) can =
         let lt : line < line_limit = numbered line _ can in
         same_count line lt (λ m. (ltb line line_limit && (not (eqb m 0) && ltb m log_limit)) ≡ true) can
     too (Release line) can = can
 
-    granted_step : (call : BookCall) → grants k s call ≡ true → Follows (made k s call) (made exact e call)
+    granted_step : (call : BookCall) → is_granted k s call ≡ true → Follows (state_after_granted k s call) (state_after_granted exact e call)
     granted_step (Note line t) can =
         let lt : line < line_limit = numbered line _ can in
         let there = keeps.notes s f.good line t can in
@@ -108,7 +108,7 @@ module _ (k : Kind) (keeps : Keeps k) where
         let grows = there.1.grows in
         let a = f.stamps line lt in
         let b = grows.stamp_grows line lt in
-        follows_with s (k.note s line t) e f line lt (entry_read (entry_at e line) t) t.0 there.0
+        follows_with s (k.note s line t) e f line lt (entry_after_read (entry_at e line) t) t.0 there.0
         here.0 grows here.1.grows
         (let l = stamp_no_less t _ (later_second (entry_at e line).stamps.read t) in omega arith) (omega arith)
         (later_least (entry_at e line).stamps.read t (k.read_mark (k.note s line t) line)
@@ -122,7 +122,7 @@ module _ (k : Kind) (keeps : Keeps k) where
         let a = f.stamps line lt in
         let b = grows.stamp_grows line lt in
         let c = there.1.passes in
-        follows_with s (k.reserve s line t) e f line lt (entry_held (entry_at e line) t) (t.0 + 1) there.0
+        follows_with s (k.reserve s line t) e f line lt (entry_after_reserve (entry_at e line) t) (t.0 + 1) there.0
         here.0 grows here.1.grows (omega arith) (omega arith)
         (later_least (entry_at e line).stamps.read (0, 0) (k.read_mark (k.reserve s line t) line)
         (mark_chain _ (k.read_mark s line) _ (f.marks line lt) (grows.mark_grows line lt))
@@ -135,10 +135,10 @@ module _ (k : Kind) (keeps : Keeps k) where
         let grows = there.1.grows in
         let a = f.stamps line lt in
         let b = grows.stamp_grows line lt in
-        follows_with s (k.add s line) e f line lt (entry_more (entry_at e line)) 0 there.0 here.0 grows here.1.grows
+        follows_with s (k.add s line) e f line lt (entry_after_add (entry_at e line)) 0 there.0 here.0 grows here.1.grows
         (omega arith) (omega arith)
         (mark_chain _ (k.read_mark s line) _ (f.marks line lt) (grows.mark_grows line lt))
-        (stores_by (warp_or_first (owner_told (entry_at e line))) _ ∙ ap (λ m. m + 1) (f.counts line lt)
+        (stores_by (warp_or_first (entry_owner (entry_at e line))) _ ∙ ap (λ m. m + 1) (f.counts line lt)
         ∙ sym there.1.one_more) (λ n l ne. (there.1.stays n l ne).same_stores)
     granted_step (Release line) can =
         let lt : line < line_limit = ltb-true line line_limit can in
@@ -147,7 +147,7 @@ module _ (k : Kind) (keeps : Keeps k) where
         let grows = there.1.grows in
         let a = f.stamps line lt in
         let b = grows.stamp_grows line lt in
-        follows_with s (k.release s line) e f line lt (entry_freed (entry_at e line)) 0 there.0 here.0 grows
+        follows_with s (k.release s line) e f line lt (entry_after_release (entry_at e line)) 0 there.0 here.0 grows
         here.1.grows (omega arith) (omega arith)
         (mark_chain _ (k.read_mark s line) _ (f.marks line lt) (grows.mark_grows line lt))
         (sym there.1.no_stores) (λ n l ne. (there.1.stays n l ne).same_stores)
@@ -155,24 +155,24 @@ module _ (k : Kind) (keeps : Keeps k) where
   Followed : k.State × Exact → Type 0
   Followed both = Follows both.0 both.1
 
-  step : (both : k.State × Exact) → Followed both → (call : BookCall) → Followed (next_both k both call)
+  step : (both : k.State × Exact) → Followed both → (call : BookCall) → Followed (both_after_call k both call)
   unfolding Followed
-  step both f call = by (grants k both.0 call) refl
+  step both f call = by (is_granted k both.0 call) refl
     where
-      by : (b : Bool) → grants k both.0 call ≡ b → Followed
-          (cond b (made k both.0 call, next exact both.1 call) both)
+      by : (b : Bool) → is_granted k both.0 call ≡ b → Followed
+          (cond b (state_after_granted k both.0 call, state_after_call exact both.1 call) both)
       by true can =
-          subst (λ e. Follows (made k both.0 call) e)
-          (sym (cond-true (grants exact both.1 call) (made exact both.1 call) both.1
+          subst (λ e. Follows (state_after_granted k both.0 call) e)
+          (sym (cond-true (is_granted exact both.1 call) (state_after_granted exact both.1 call) both.1
           (too both.0 both.1 f call can)))
           (granted_step both.0 both.1 f call can)
       by false can = f
 
-  run : (both : k.State × Exact) → Followed both → (calls : List BookCall) → Followed (run_both k both calls)
+  run : (both : k.State × Exact) → Followed both → (calls : List BookCall) → Followed (both_after_calls k both calls)
   run both f [] = f
-  run both f (call ∷ calls) = run (next_both k both call) (step both f call) calls
+  run both f (call ∷ calls) = run (both_after_call k both call) (step both f call) calls
 
-  start : (s : k.State) → k.Good s → New k s → Followed (s, exact_new)
+  start : (s : k.State) → k.Good s → IsNew k s → Followed (s, exact_new)
   unfolding Followed Told
   start s good new =
       record {
@@ -181,7 +181,7 @@ module _ (k : Kind) (keeps : Keeps k) where
         stamps = λ n l. subst (λ x. x.stamps.write ≤ k.write_stamp s n) (sym (new_entry n)) (omega arith);
         marks = λ n l. subst (λ x. earlier (k.read_mark s n) x.stamps.read ≡ false) (sym (new_entry n))
             (mark_first (k.read_mark s n));
-        counts = λ n l. ap stores_told (new_entry n) ∙ sym (new.no_store n l);
+        counts = λ n l. ap entry_stores (new_entry n) ∙ sym (new.no_store n l);
         told = (0, omega arith, omega arith);
       }
 
@@ -198,10 +198,10 @@ module _ (k : Kind) (keeps : Keeps k) where
       let mark = tells.mark_bound in
       omega arith
 
-  pub exact_is_earliest : Earliest k
+  pub exact_is_earliest : IsEarliest k
   unfolding Followed
   exact_is_earliest s good new calls =
-      let both : k.State × Exact = run_both k (s, exact_new) calls in
+      let both : k.State × Exact = both_after_calls k (s, exact_new) calls in
       let f : Follows both.0 both.1 = run (s, exact_new) (start s good new) calls in
       record {
         stamps = f.stamps;
@@ -211,22 +211,22 @@ module _ (k : Kind) (keeps : Keeps k) where
       }
 
 -- What a book answers says whether both get the call.
-module _ (k : Kind) (s s' : k.State) (e e' : Exact) (call : BookCall) (after : s' ≡ next k s call) where
-  pub both_made : Ok tt ≡ granted (grants k s call) → e' ≡ next exact e call → (s', e') ≡ next_both k (s, e) call
-  both_made answer also = by (grants k s call) after answer
+module _ (k : Kind) (s s' : k.State) (e e' : Exact) (call : BookCall) (after : s' ≡ state_after_call k s call) where
+  pub both_made : Ok tt ≡ grant_result (is_granted k s call) → e' ≡ state_after_call exact e call → (s', e') ≡ both_after_call k (s, e) call
+  both_made answer also = by (is_granted k s call) after answer
     where
       by :
-          (b : Bool) → s' ≡ cond b (made k s call) s → Ok tt ≡ granted b
-          → ◌≡◌ {A = k.State × Exact} (s', e') (cond b (made k s call, next exact e call) (s, e))
+          (b : Bool) → s' ≡ cond b (state_after_granted k s call) s → Ok tt ≡ grant_result b
+          → ◌≡◌ {A = k.State × Exact} (s', e') (cond b (state_after_granted k s call, state_after_call exact e call) (s, e))
       by true is h = λ i. (is i, also i)
       by false is h = absurd cc
 
-  pub neither_made : (r : Refused) → Err r ≡ granted (grants k s call) → (s', e) ≡ next_both k (s, e) call
-  neither_made r answer = by (grants k s call) after answer
+  pub neither_made : (r : Refused) → Err r ≡ grant_result (is_granted k s call) → (s', e) ≡ both_after_call k (s, e) call
+  neither_made r answer = by (is_granted k s call) after answer
     where
       by :
-          (b : Bool) → s' ≡ cond b (made k s call) s → Err r ≡ granted b
-          → ◌≡◌ {A = k.State × Exact} (s', e) (cond b (made k s call, next exact e call) (s, e))
+          (b : Bool) → s' ≡ cond b (state_after_granted k s call) s → Err r ≡ grant_result b
+          → ◌≡◌ {A = k.State × Exact} (s', e) (cond b (state_after_granted k s call, state_after_call exact e call) (s, e))
       by true is h = absurd cc
       by false is h = λ i. (is i, e)
 

@@ -4,7 +4,7 @@ pub mod Counting
 pub mod Entries
 pub mod Grants
 pub mod Exact
-pub mod Pages
+pub mod ExactState
 pub mod Earliest
 pub mod ExactKeeps
 pub mod Slots

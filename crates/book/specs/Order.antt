@@ -3,7 +3,7 @@ use Rattle.std.specs.Prelude.{◌≡◌, ℕ, ◌≤◌, false}
 use Rattle.std.proofs.Common.{arith}
 use Rattle.std.proofs.lemmas.Bool.Decides.{nat_tests}
 use Rattle.book.specs.Time.{Time, earlier}
-use Rattle.book.specs.Entries.{later_of, earlier_of, raised, least}
+use Rattle.book.specs.Entries.{later_of, earlier_of, later_stamps, earlier_stamps}
 use Rattle.book.specs.declared.entry.Stamps.{Stamps}
 
 -- Both stamps of the second are no earlier than those of the first.
@@ -53,16 +53,16 @@ stamps_same a = (omega arith, mark_same a.read)
 pub stamps_chain : (a b c : Stamps) → NoEarlier a b → NoEarlier b c → NoEarlier a c
 stamps_chain a b c p q = (omega arith, mark_chain a.read b.read c.read p.1 q.1)
 
-pub raised_first : (a b : Stamps) → NoEarlier a (raised a b)
+pub raised_first : (a b : Stamps) → NoEarlier a (later_stamps a b)
 raised_first a b = (omega arith, later_first a.read b.read)
 
-pub raised_second : (a b : Stamps) → NoEarlier b (raised a b)
+pub raised_second : (a b : Stamps) → NoEarlier b (later_stamps a b)
 raised_second a b = (omega arith, later_second a.read b.read)
 
-pub least_reaches : (s a b : Stamps) → NoEarlier s a → NoEarlier s b → NoEarlier s (least a b)
+pub least_reaches : (s a b : Stamps) → NoEarlier s a → NoEarlier s b → NoEarlier s (earlier_stamps a b)
 least_reaches s a b p q = (omega arith, earlier_reaches a.read b.read s.read p.1 q.1)
 
-pub least_grows : (a b c d : Stamps) → NoEarlier a c → NoEarlier b d → NoEarlier (least a b) (least c d)
+pub least_grows : (a b c d : Stamps) → NoEarlier a c → NoEarlier b d → NoEarlier (earlier_stamps a b) (earlier_stamps c d)
 least_grows a b c d p q =
     (omega arith, earlier_grows a.read b.read c.read d.read p.1 q.1)
 

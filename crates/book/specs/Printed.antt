@@ -5,11 +5,11 @@ use Rattle.book.specs.Time.{Time}
 use Rattle.book.specs.declared.call.BookCall.{BookCall}
 use Rattle.book.specs.declared.call.BookCall.TheVariants.{Note, Reserve, Add, Release}
 
-abbrev pub line_called : BookCall → ℕ
-line_called (Note line t) = line
-line_called (Reserve line t) = line
-line_called (Add line) = line
-line_called (Release line) = line
+abbrev pub call_line : BookCall → ℕ
+call_line (Note line t) = line
+call_line (Reserve line t) = line
+call_line (Add line) = line
+call_line (Release line) = line
 
 abbrev pub time_text : Time → List ℕ
 time_text t = codes "(" ++ (decimal t.0 ++ (codes ", " ++ (decimal t.1 ++ codes ")")))

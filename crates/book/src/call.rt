@@ -1,12 +1,12 @@
 //! The calls of a book as values, and how two books get the same ones.
 ghost use Rattle.std.specs.Prelude.{◌≡◌, Some};
-ghost use Rattle.book.specs.Grants.{granted};
-ghost use Rattle.book.specs.Earliest.{grants, next, next_both, Earliest};
-ghost use Rattle.book.specs.Pages.{exact_page};
-ghost use Rattle.book.specs.Printed.{line_called, call_text};
+ghost use Rattle.book.specs.Grants.{grant_result};
+ghost use Rattle.book.specs.Earliest.{is_granted, state_after_call, both_after_call, IsEarliest};
+ghost use Rattle.book.specs.ExactState.{exact_state};
+ghost use Rattle.book.specs.Printed.{call_line, call_text};
 
+use crate::book::Book;
 use crate::exact::ExactBook;
-use crate::record::Book;
 use crate::refused::Refused;
 use std::fmt;
 
@@ -22,7 +22,7 @@ pub enum BookCall {
 impl BookCall {
     /// The line that the call is about.
     pub fn line(self) -> u32
-        ensures { result ≡ line_called self }
+        ensures { result ≡ call_line self }
     {
         match self {
             BookCall::Note { line, .. }
@@ -48,9 +48,9 @@ impl fmt::Display for BookCall {
 
 /// Makes a call of a book.
 pub fn make<B: Book>(book: &mut B, call: BookCall) -> Result<(), Refused>
-    ensures answer { result ≡ granted (grants B.Book.kind (B.Book.model book.old) call) }
-    ensures after { B.Book.model book.new
-        ≡ next B.Book.kind (B.Book.model book.old) call }
+    ensures answer { result ≡ grant_result (is_granted B.kind (B.model book.old) call) }
+    ensures after { B.model book.new
+        ≡ state_after_call B.kind (B.model book.old) call }
 {
     match call {
         BookCall::Note { line, time } => book.note(line, time),
@@ -68,10 +68,10 @@ pub fn make_both<B: Book>(
     exact: &mut ExactBook,
     call: BookCall,
 ) -> Result<(), Refused>
-    ensures answer { result ≡ granted (grants B.Book.kind (B.Book.model book.old) call) }
-    ensures after { (B.Book.model book.new, exact_page exact.new)
-        ≡ next_both B.Book.kind (B.Book.model book.old, exact_page exact.old) call }
-    ensures earliest { Earliest B.Book.kind }
+    ensures answer { result ≡ grant_result (is_granted B.kind (B.model book.old) call) }
+    ensures after { (B.model book.new, exact_state exact.new)
+        ≡ both_after_call B.kind (B.model book.old, exact_state exact.old) call }
+    ensures earliest { IsEarliest B.kind }
 {
     make(book, call)?;
     let _ = make(exact, call);

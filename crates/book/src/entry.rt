@@ -1,6 +1,6 @@
 //! What a book keeps of a line.
 ghost use Rattle.std.specs.Prelude.{◌≡◌, ◌<◌};
-ghost use Rattle.book.specs.Meaning.{sound_time};
+ghost use Rattle.book.specs.Meaning.{is_valid_time};
 
 use protocol::limits::{LAST_STAMP, WARPS};
 
@@ -30,13 +30,13 @@ pub struct Entry {
 
 /// Whether a call may name the time: no stamp past the end of the clock, no warp past the last.
 pub fn can_be(time: (u32, u32)) -> bool
-    ensures { result ≡ sound_time time }
+    ensures { result ≡ is_valid_time time }
 {
     time.0 <= LAST_STAMP && time.1 < WARPS
 }
 
 impl Stamps {
-    ghost use Rattle.book.specs.Entries.{raised, least};
+    ghost use Rattle.book.specs.Entries.{later_stamps, earlier_stamps};
 
     /// No stamp at all.
     pub const NONE: Stamps = Stamps {
@@ -46,7 +46,7 @@ impl Stamps {
 
     /// The later of each.
     pub fn raised(self, other: Stamps) -> Stamps
-        ensures { result ≡ raised self other }
+        ensures { result ≡ later_stamps self other }
     {
         Stamps {
             write: self.write.max(other.write),
@@ -58,7 +58,7 @@ impl Stamps {
     // and among pairs, so two of them would be passed.
     /// The earlier of each.
     pub fn least(self, other: Stamps) -> Stamps
-        ensures { result ≡ least self other }
+        ensures { result ≡ earlier_stamps self other }
     {
         Stamps {
             write: self.write.min(other.write),
@@ -68,11 +68,11 @@ impl Stamps {
 }
 
 impl Hold {
-    ghost use Rattle.book.specs.Entries.{hold_by};
+    ghost use Rattle.book.specs.Entries.{hold_of};
 
     /// So many stores of a warp; no hold where there are none.
     fn of(warp: u32, stores: u32) -> Option<Hold>
-        ensures { result ≡ hold_by warp stores }
+        ensures { result ≡ hold_of warp stores }
     {
         match stores {
             0 => None,
@@ -82,7 +82,7 @@ impl Hold {
 }
 
 impl Entry {
-    ghost use Rattle.book.specs.Entries.{entry_read, held_by, with_stores, owner_told, stores_told};
+    ghost use Rattle.book.specs.Entries.{entry_after_read, reserved_entry, entry_with_stores, entry_owner, entry_stores};
 
     /// A line that no call named yet.
     pub const UNTOUCHED: Entry = Entry {
@@ -92,21 +92,21 @@ impl Entry {
 
     /// How many stores hold the line.
     pub fn stores(self) -> u32
-        ensures { result ≡ stores_told self }
+        ensures { result ≡ entry_stores self }
     {
         self.hold.map_or(0, |hold| hold.stores)
     }
 
     /// The warp whose stores hold the line.
     pub fn owner(self) -> Option<u32>
-        ensures { result ≡ owner_told self }
+        ensures { result ≡ entry_owner self }
     {
         self.hold.map(|hold| hold.warp)
     }
 
     /// The line after a read.
     pub fn read_at(self, time: (u32, u32)) -> Entry
-        ensures { result ≡ entry_read self time }
+        ensures { result ≡ entry_after_read self time }
     {
         let read = Stamps {
             read: time,
@@ -120,7 +120,7 @@ impl Entry {
 
     /// The line after its reservation by a warp, with its write stamp raised to a stamp.
     pub fn held_by(self, warp: u32, stamp: u32) -> Entry
-        ensures { result ≡ held_by self warp stamp }
+        ensures { result ≡ reserved_entry self warp stamp }
     {
         let written = Stamps {
             write: stamp,
@@ -134,7 +134,7 @@ impl Entry {
 
     /// The line with so many stores, of the warp that holds it or else of warp 0.
     pub fn with_stores(self, stores: u32) -> Entry
-        ensures { result ≡ with_stores self stores }
+        ensures { result ≡ entry_with_stores self stores }
     {
         let warp = self.owner().unwrap_or(0);
         Entry {

@@ -1,7 +1,7 @@
 //! The exact book: an entry for each line, so that it tells the earliest stamps that a book may.
 pub mod calls;
 
-ghost use Rattle.book.specs.Exact.{Sound, page_of};
+ghost use Rattle.book.specs.Exact.{IsSound, exact_of};
 
 use crate::entry::Entry;
 
@@ -10,5 +10,5 @@ use crate::entry::Entry;
 pub struct ExactBook {
     entries: [Entry; 4096],
     latest: u32,
-    ghost sound: { Sound (page_of entries latest) },
+    ghost sound: { IsSound (exact_of entries latest) },
 }

@@ -10,7 +10,7 @@ use Rattle.protocol.specs.Faults.{fault_in_file}
 use Rattle.protocol.specs.declared.call.Call.{Call}
 use Rattle.protocol.specs.declared.fault.Fault.{Fault}
 use Rattle.protocol.specs.declared.fault.Refusal.TheVariants.{CutShort, TooManyRows, BadLetter}
-use Rattle.calls.specs.Format.{Rows, rows_from, row_before, row_at, row_of, row_call, no_more, unless}
+use Rattle.calls.specs.Format.{Rows, rows_from, row_before, row_at, row_of, row_call, no_rows_but, file_fault_unless}
 use Rattle.calls.proofs.SameBytes.{same_in_part, same_call}
 
 -- Some calls before some rows.
@@ -111,7 +111,7 @@ module _ (bytes : List ℕ) (start : ℕ) (rows : List (List ℕ)) (are : rows �
       ∙ row_in (length here / 8) i here (omega arith) ∙ ap (take 8) (drop-drop (8 * i) start bytes))
 
 -- A fault, or none, with no rows after it.
-last_found : (calls : List Call) (found : Option Fault) (rows : Rows) → calls_before calls (no_more found) ≡ rows
+last_found : (calls : List Call) (found : Option Fault) (rows : Rows) → calls_before calls (no_rows_but found) ≡ rows
     → (calls ≡ rows.calls) × (found ≡ rows.fault)
 last_found calls found rows e = (sym (append-nil calls) ∙ ap (λ r. r.calls) e, ap (λ r. r.fault) e)
 
@@ -144,7 +144,7 @@ module _ (bytes : List ℕ) (place n : ℕ) (calls : List Call) (rows : Rows)
   pub at_last :
       (read last : ℕ) → n + read ≡ 4096 → place ≡ last → (0 < n → length bytes < last + 8)
       → (calls ≡ rows.calls)
-      × (unless (leb (length bytes) last) (cond (ltb read 4096) CutShort TooManyRows) last ≡ rows.fault)
+      × (file_fault_unless (leb (length bytes) last) (cond (ltb read 4096) CutShort TooManyRows) last ≡ rows.fault)
   unfolding rows_from
   at_last read last left is short =
       let here : calls_before calls (rows_from bytes n last) ≡ rows =

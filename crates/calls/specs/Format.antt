@@ -74,8 +74,8 @@ late_stamp place [] = None
 late_stamp place (stamp ∷ rest) = cond (nat_le stamp last_stamp) (late_stamp (place + 4) rest) (Some place)
 
 -- What a check finds: nothing where it passes.
-abbrev pub unless : Bool → Refusal → ℕ → Option Fault
-unless passes why place = cond passes None (Some (fault_in_file why place))
+abbrev pub file_fault_unless : Bool → Refusal → ℕ → Option Fault
+file_fault_unless passes why place = cond passes None (Some (fault_in_file why place))
 
 -- The first finding of several checks.
 abbrev pub first_found : List (Option Fault) → Option Fault
@@ -87,11 +87,11 @@ first_found (Some fault ∷ rest) = Some fault
 abbrev pub header_fault : List ℕ → Option Fault
 header_fault bytes =
     first_found
-    (unless (marked bytes) BadMark 0
-    ∷ unless (two_bytes bytes 3 == 1) BadVersion 3
-    ∷ unless (is_some (book_named (slice_index bytes 5))) BadLetter 5
-    ∷ unless (sized bytes) BadSize 6
-    ∷ unless (nat_le (rows_place bytes) (length bytes)) CutShort (length bytes)
+    (file_fault_unless (marked bytes) BadMark 0
+    ∷ file_fault_unless (two_bytes bytes 3 == 1) BadVersion 3
+    ∷ file_fault_unless (is_some (book_named (slice_index bytes 5))) BadLetter 5
+    ∷ file_fault_unless (sized bytes) BadSize 6
+    ∷ file_fault_unless (nat_le (rows_place bytes) (length bytes)) CutShort (length bytes)
     ∷ option_map (fault_in_file BadStamp) (late_stamp 9 (stamps bytes))
     ∷ [])
 
@@ -119,18 +119,18 @@ pub record Rows : Type 0 where
   pub calls : List Call
   pub fault : Option Fault
 
-abbrev pub no_more : Option Fault → Rows
-no_more found = record { calls = []; fault = found }
+abbrev pub no_rows_but : Option Fault → Rows
+no_rows_but found = record { calls = []; fault = found }
 
 -- A row before others: the end and a fault are the last.
 abbrev pub row_before : Result (Option Call) Fault → Rows → Rows
-row_before (Ok None) rest = no_more None
+row_before (Ok None) rest = no_rows_but None
 row_before (Ok (Some call)) rest = record { calls = call ∷ rest.calls; fault = rest.fault }
-row_before (Err found) rest = no_more (Some found)
+row_before (Err found) rest = no_rows_but (Some found)
 
 -- The rows from a place on, of which so many may come: 8 bytes each, to the end of the file.
 unfoldable pub rows_from : List ℕ → ℕ → ℕ → Rows
-rows_from bytes zero place = no_more (unless (nat_le (length bytes) place) TooManyRows place)
+rows_from bytes zero place = no_rows_but (file_fault_unless (nat_le (length bytes) place) TooManyRows place)
 rows_from bytes (suc more) place = row_before (row_at bytes place) (rows_from bytes more (place + 8))
 
 -- A file has at most so many rows.

@@ -6,7 +6,7 @@ use Rattle.calls.specs.declared.file.ReadError.TheVariants.{Damaged, NoMemory}
 use Rattle.calls.specs.Format.{header_fault, book_named, stamps, values, file_rows}
 
 -- A file says what its bytes say.
-pub record Says (bytes : List ℕ) (file : CallsFile) : Type 0 where
+pub record ReadsAs (bytes : List ℕ) (file : CallsFile) : Type 0 where
   pub book : book_named (slice_index bytes 5) ≡ Some file.book
   pub stamps : vec_items file.stamps ≡ stamps bytes
   pub values : vec_items file.values ≡ values bytes
@@ -16,6 +16,6 @@ pub record Says (bytes : List ℕ) (file : CallsFile) : Type 0 where
 -- A sound header is read with its rows, a damaged one is told by the first check that fails. Where memory is wanting,
 -- nothing is said of the bytes.
 abbrev pub Reads : List ℕ → Result CallsFile ReadError → Type 0
-Reads bytes (Ok file) = (header_fault bytes ≡ None) × Says bytes file
+Reads bytes (Ok file) = (header_fault bytes ≡ None) × ReadsAs bytes file
 Reads bytes (Err (Damaged fault)) = header_fault bytes ≡ Some fault
 Reads bytes (Err NoMemory) = Unit {0}

@@ -4,6 +4,6 @@ use Rattle.calls.specs.Format.{Rows}
 use Rattle.calls.specs.declared.rows.RowsRead.{RowsRead}
 
 -- The calls and the fault that were read are those of some rows.
-pub record Holds (read : RowsRead) (rows : Rows) : Type 0 where
+pub record IsReadAs (read : RowsRead) (rows : Rows) : Type 0 where
   pub calls : vec_items read.calls ≡ rows.calls
   pub fault : read.fault ≡ rows.fault

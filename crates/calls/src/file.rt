@@ -5,8 +5,7 @@ ghost use Rattle.protocol.specs.declared.fault.Refusal.TheVariants.{BadLetter};
 ghost use Rattle.calls.specs.Format.{book_letter, book_named, LettersNameBooks, BooksKeepLetters};
 ghost use Rattle.calls.specs.declared.file.ReadError.TheVariants.{Damaged, NoMemory};
 
-use protocol::call::Call;
-use protocol::fault::{Fault, Refusal};
+use protocol::{Call, Fault, Refusal};
 use std::alloc::AllocError;
 
 /// The version book that a file asks for.

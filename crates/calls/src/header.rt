@@ -5,8 +5,7 @@ ghost use Rattle.calls.specs.Format.{four_bytes, numbers};
 ghost use Rattle.calls.specs.Headers.{Versioned, Shaped, DamagedBy};
 
 use crate::file::BookKind;
-use protocol::fault::{Fault, Refusal};
-use protocol::limits;
+use protocol::{Fault, Refusal, limits};
 use std::alloc::{AllocError, Global};
 
 /// The one version of the format.

@@ -6,7 +6,7 @@ ghost use Rattle.calls.specs.Reading.{Reads};
 use crate::file::{CallsFile, ReadError};
 use crate::header::{LINES, WARPS, find_late, read_numbers, read_shape};
 use crate::rows::{ROW_BYTES, ROWS, read_rows};
-use protocol::fault::{Fault, Refusal};
+use protocol::{Fault, Refusal};
 use std::alloc::Global;
 
 /// The first stamps stand here, after the marks, the version, the book's letter and the sizes.

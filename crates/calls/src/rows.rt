@@ -1,11 +1,10 @@
 //! The rows: one call each.
 ghost use Rattle.std.specs.Prelude.{◌≡◌, ◌^◌, ◌<◌, ◌≤◌, length, cond, IfOk, nat_le, nat_lt};
-ghost use Rattle.calls.specs.Format.{row_of, rows_from, row_limit, unless};
+ghost use Rattle.calls.specs.Format.{row_of, rows_from, row_limit, file_fault_unless};
 ghost use Rattle.protocol.specs.declared.fault.Refusal.TheVariants.{CutShort, TooManyRows};
-ghost use Rattle.calls.specs.RowReading.{Holds};
+ghost use Rattle.calls.specs.RowReading.{IsReadAs};
 
-use protocol::call::{Call, Op};
-use protocol::fault::{Fault, Refusal};
+use protocol::{Call, Fault, Op, Refusal};
 use std::alloc::{AllocError, Global};
 
 /// A file has at most so many rows.
@@ -41,7 +40,7 @@ fn read_row(row: &[u8; ROW_BYTES], place: usize) -> Result<Call, Fault>
 // The bytes of the file and a place, and no part of them: faults are told by their places in the file.
 /// The rows from a place on.
 pub(crate) fn read_rows(heap: Global, bytes: &[u8], start: usize) -> Result<RowsRead, AllocError>
-    ensures { IfOk result (λ read. Holds read (rows_from bytes.now row_limit start)) }
+    ensures { IfOk result (λ read. IsReadAs read (rows_from bytes.now row_limit start)) }
 {
     let rest = bytes.get(start..).unwrap_or(&[]);
     let (rows, _) = rest.as_chunks::<ROW_BYTES>();
@@ -63,7 +62,7 @@ pub(crate) fn read_rows(heap: Global, bytes: &[u8], start: usize) -> Result<Rows
 
 // What is wrong where the whole rows end, so many of them: the row that begins there is cut short, or one too many.
 fn after_rows(bytes: &[u8], place: usize, rows: usize) -> Option<Fault>
-    ensures { result ≡ unless (nat_le (length bytes.now) place) (cond (nat_lt rows row_limit) CutShort TooManyRows) place }
+    ensures { result ≡ file_fault_unless (nat_le (length bytes.now) place) (cond (nat_lt rows row_limit) CutShort TooManyRows) place }
 {
     let refusal = if rows < ROWS {
         Refusal::CutShort

@@ -1,8 +1,7 @@
 //! Damaged and sound files, by example.
 use crate::file::{BookKind, CallsFile, ReadError};
 use crate::reader::read;
-use protocol::call::{Call, Op};
-use protocol::fault::{Fault, Layer, Refusal};
+use protocol::{Call, Fault, Layer, Op, Refusal};
 use std::alloc::Global;
 use std::process::Abort;
 use std::test::Fail;

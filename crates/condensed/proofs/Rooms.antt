@@ -2,7 +2,7 @@
 use Rattle.std.proofs.Common.{◌≡◌, ℕ, ◌+◌, Bool, true, false, cond, ◌||◌, List, [], ◌∷◌, map, is_some, nat_le, Some, None, Option, refl, sym, ap, ◌∙◌}
 use Rattle.std.specs.Option.{option_map}
 use Rattle.choice.specs.Rule.{better_of, best_from}
-use Rattle.condensed.specs.Condensed.{any_free, slot_key, place_in}
+use Rattle.condensed.specs.Condensed.{any_free, slot_key, place_from}
 use Rattle.condensed.specs.declared.slot.Slot.{Slot}
 
 or_false : (a : Bool) → a ≡ (a || false)
@@ -36,12 +36,12 @@ best_there place best (slot ∷ slots) =
     ∙ or_again (is_some best) (is_some (slot_key slot)) (any_free slots)
 
 pub one_to_take : (slots : List Slot) (inside : Option ℕ)
-    → (is_some inside || any_free slots) ≡ is_some (place_in slots inside)
+    → (is_some inside || any_free slots) ≡ is_some (place_from slots inside)
 one_to_take slots None = sym (mapped (λ best. best.0) (best_from 0 None (map slot_key slots)) ∙ best_there 0 None slots)
 one_to_take slots (Some place) = refl
 
 -- The same of a line that is in no slot.
 pub one_outside : {A : Type 0} (f : A → ℕ) (inside : Option A) (slots : List Slot)
-    → is_some inside ≡ false → any_free slots ≡ is_some (place_in slots (option_map f inside))
+    → is_some inside ≡ false → any_free slots ≡ is_some (place_from slots (option_map f inside))
 one_outside f None slots e = one_to_take slots None
 one_outside f (Some x) slots e = cc

@@ -3,12 +3,12 @@ use Rattle.std.proofs.Common.{◌≡◌, ℕ, ◌+◌, ◌-◌, ◌<◌, ◌≤�
 use Rattle.std.proofs.lemmas.Bool.{and_parts, both_ways, cases_lt, cond-true, cond-false, lt-ltb, le-ltb, ltb-true}
 use Rattle.std.proofs.lemmas.Bool.{eqb-true, not-false, false_from_ne_true}
 use Rattle.protocol.specs.Limits.{line_limit}
-use Rattle.choice.specs.Rule.{chosen}
+use Rattle.choice.specs.Rule.{choice_of}
 use Rattle.book.specs.Counting.{placed_lines}
-use Rattle.book.specs.Meaning.{reserved, reserved_lines}
-use Rattle.book.specs.Entries.{stores_told}
-use Rattle.condensed.specs.Condensed.{Condensed, Sound, condensed, empty, entry_in, slot_key, slot_of, or_else}
-use Rattle.condensed.specs.Condensed.{place_for, told, told_from}
+use Rattle.book.specs.Meaning.{is_reserved, reserved_count}
+use Rattle.book.specs.Entries.{entry_stores}
+use Rattle.condensed.specs.Condensed.{Condensed, IsSound, condensed, empty_slot, slot_entry, slot_key, slot_of, or_else}
+use Rattle.condensed.specs.Condensed.{place_for, line_entry, entry_from}
 use Rattle.condensed.specs.CondensedTells.{chosen_free, held_in, line_at, told_inside}
 use Rattle.condensed.specs.Seventeenth.{NoSlotForASeventeenth}
 use Rattle.condensed.specs.Slots.{Spot, spot}
@@ -27,14 +27,14 @@ among_fifteen p i lt inside apart =
     ))
     (cases_lt i p)
 
-module _ (s : Condensed) (sound : Sound s) where
+module _ (s : Condensed) (sound : IsSound s) where
   abbrev stores_in : ℕ → ℕ
-  stores_in i = stores_told (entry_in (get_or s.slots i empty))
+  stores_in i = entry_stores (slot_entry (get_or s.slots i empty_slot))
 
   -- Where a line that no store holds has a slot, no store holds the line in it.
   free_place :
-      (n : ℕ) (o other : Option ℕ) → Spot s.slots n o → other ≡ chosen (map slot_key s.slots)
-      → stores_told (told_from s.slots s.filter n o) ≡ 0 → is_some (or_else o other) ≡ true
+      (n : ℕ) (o other : Option ℕ) → Spot s.slots n o → other ≡ choice_of (map slot_key s.slots)
+      → entry_stores (entry_from s.slots s.filter n o) ≡ 0 → is_some (or_else o other) ≡ true
       → (p : ℕ) × (p < 16) × (stores_in p ≡ 0)
   free_place n (Some i) other sp is free has = let sixteen = sound.sixteen in (i, omega (arith, sp.0), free)
   free_place n None (Some p) sp is free has =
@@ -43,9 +43,9 @@ module _ (s : Condensed) (sound : Sound s) where
       (p, omega (arith, law.0), law.1)
   free_place n None None sp is free has = absurd (both_ways _ refl has)
 
-  fifteen : (p : ℕ) → p < 16 → stores_in p ≡ 0 → reserved_lines condensed s ≤ 15
+  fifteen : (p : ℕ) → p < 16 → stores_in p ≡ 0 → reserved_count condensed s ≤ 15
   fifteen p lt free =
-      placed_lines 15 line_limit (λ j. line_at s sound (past_one p j)) (reserved condensed s) (λ n inside held.
+      placed_lines 15 line_limit (λ j. line_at s sound (past_one p j)) (is_reserved condensed s) (λ n inside held.
       let place = held_in s sound n inside held in
       let j = among_fifteen p place.0 lt place.1 (λ e. held_and_free (stores_in p)
       (subst (λ i. 0 < stores_in i) e place.3) free) in
@@ -62,7 +62,7 @@ no_slot_for_a_seventeenth s sound sixteen n free =
     false_from_ne_true (condensed.has_slot s n) (λ has.
     let parts = and_parts (nat_lt n line_limit) (is_some (place_for s.slots n)) has in
     let lt : n < line_limit = ltb-true n line_limit parts.0 in
-    let none = eqb-true (stores_told (told s n)) 0 (not-false _ free) in
-    let place = free_place s sound n (slot_of s.slots n) (chosen (map slot_key s.slots)) (spot s.slots n) refl
-    (ap stores_told (sym (told_inside s n lt)) ∙ none) parts.1 in
-    sixteen_or_fifteen (reserved_lines condensed s) sixteen (fifteen s sound place.0 place.1 place.2))
+    let none = eqb-true (entry_stores (line_entry s n)) 0 (not-false _ free) in
+    let place = free_place s sound n (slot_of s.slots n) (choice_of (map slot_key s.slots)) (spot s.slots n) refl
+    (ap entry_stores (sym (told_inside s n lt)) ∙ none) parts.1 in
+    sixteen_or_fifteen (reserved_count condensed s) sixteen (fifteen s sound place.0 place.1 place.2))

@@ -5,12 +5,12 @@ use Rattle.std.proofs.Math.Path.{refl, sym, ap, subst}
 use Rattle.std.proofs.lemmas.Bool.{false_from_ne_true, cases_eq, cond-false, cond_both, eqb-true, ne_eqb, eq-eqb}
 use Rattle.std.proofs.lemmas.Bool.{both_ways}
 use Rattle.protocol.specs.Limits.{line_limit}
-use Rattle.book.specs.Entries.{free_with, stores_told, owner_told}
+use Rattle.book.specs.Entries.{free_entry, entry_stores, entry_owner}
 use Rattle.book.specs.ExactKeeps.{free_owner}
-use Rattle.book.specs.Exact.{FitsBy}
-use Rattle.condensed.specs.Filter.{FourWays, indices_of, stamps_at, filter_told, filter_raised}
-use Rattle.condensed.specs.Condensed.{Condensed, Sound, empty, is_line, same_line, holds, slot_of, told_from, told}
-use Rattle.condensed.specs.Condensed.{holding, line_in, entry_in, in_slot, turned_out, raised_for, Apart, Numbered}
+use Rattle.book.specs.Exact.{FitsWithin}
+use Rattle.condensed.specs.Filter.{FourWays, indices_of, stamps_at, filter_stamps, filter_raised_to}
+use Rattle.condensed.specs.Condensed.{Condensed, IsSound, empty_slot, is_line, same_line, slot_holds, slot_of, entry_from, line_entry}
+use Rattle.condensed.specs.Condensed.{slot_holding, slot_line, slot_entry, slots_with, filter_after_eviction, filter_raised_for, HoldDistinctLines, HoldNumberedLines}
 use Rattle.book.specs.declared.entry.Entry.{Entry}
 use Rattle.book.specs.declared.entry.Stamps.{Stamps}
 use Rattle.condensed.specs.declared.slot.Slot.{Slot}
@@ -25,22 +25,22 @@ use Rattle.condensed.specs.CondensedTells.{told_inside}
 -- A line is told no earlier than before, with the same stores and owner.
 pub record Kept (a b : Entry) : Type 0 where
   pub up : NoEarlier a.stamps b.stamps
-  pub same_stores : stores_told b ≡ stores_told a
-  pub same_owner : owner_told b ≡ owner_told a
+  pub same_stores : entry_stores b ≡ entry_stores a
+  pub same_owner : entry_owner b ≡ entry_owner a
 
 pub kept_same : (a b : Entry) → b ≡ a → Kept a b
 kept_same a b e =
     record {
       up = subst (λ x. NoEarlier a.stamps x.stamps) (sym e) (stamps_same a.stamps);
-      same_stores = ap stores_told e;
-      same_owner = ap owner_told e;
+      same_stores = ap entry_stores e;
+      same_owner = ap entry_owner e;
     }
 
-pub kept_free : (a b : Stamps) → NoEarlier a b → Kept (free_with a) (free_with b)
+pub kept_free : (a b : Stamps) → NoEarlier a b → Kept (free_entry a) (free_entry b)
 kept_free a b up = record { up = up; same_stores = refl; same_owner = refl }
 
 -- An entry that no store holds is turned out, and its line told by stamps no earlier.
-kept_out : (a : Entry) (b : Stamps) → stores_told a ≡ 0 → NoEarlier a.stamps b → Kept a (free_with b)
+kept_out : (a : Entry) (b : Stamps) → entry_stores a ≡ 0 → NoEarlier a.stamps b → Kept a (free_entry b)
 kept_out a b none up =
     record {
       up = up;
@@ -56,7 +56,7 @@ pub record Within (filter : List (List Stamps)) (latest : ℕ) : Type 0 where
 
 pub within_raised :
     (filter : List (List Stamps)) (latest later : ℕ) (four : List ℕ) (s : Stamps) → Within filter latest
-    → latest ≤ later → s.write ≤ later → s.read.0 ≤ later → Within (filter_raised filter four s) later
+    → latest ≤ later → s.write ≤ later → s.read.0 ≤ later → Within (filter_raised_to filter four s) later
 within_raised filter latest later four s w up sw sr =
     record {
       ways = raised_ways filter four s w.ways;
@@ -79,34 +79,34 @@ within_later filter latest later w up =
 abbrev pub moved_to : Condensed → ℕ → ℕ → Entry → ℕ → Condensed
 moved_to s line i e later =
     record {
-      slots = slice_set s.slots i (holding line e);
-      filter = turned_out s.filter (slice_index_or s.slots i empty) line;
+      slots = slice_set s.slots i (slot_holding line e);
+      filter = filter_after_eviction s.filter (slice_index_or s.slots i empty_slot) line;
       latest = later;
     }
 
-module _ (s : Condensed) (sound : Sound s) where
+module _ (s : Condensed) (sound : IsSound s) where
   pub within_now : Within s.filter s.latest
   within_now = record { ways = sound.four_ways; written = sound.filter_written; read = sound.filter_read }
 
   -- A slot may be set whose entry fits.
   pub sound_with :
-      (i : ℕ) (x : Slot) (filter : List (List Stamps)) (later : ℕ) → s.latest ≤ later → FitsBy later (entry_in x)
-      → Apart (slice_set s.slots i x) → Numbered (slice_set s.slots i x) → Within filter later
-      → Sound (record { slots = slice_set s.slots i x; filter = filter; latest = later })
+      (i : ℕ) (x : Slot) (filter : List (List Stamps)) (later : ℕ) → s.latest ≤ later → FitsWithin later (slot_entry x)
+      → HoldDistinctLines (slice_set s.slots i x) → HoldNumberedLines (slice_set s.slots i x) → Within filter later
+      → IsSound (record { slots = slice_set s.slots i x; filter = filter; latest = later })
   sound_with i x filter later up fits apart numbered w =
       record {
         sixteen = length-set s.slots i x ∙ sound.sixteen;
         four_ways = w.ways;
         apart = apart;
         numbered = numbered;
-        slots_written = λ k. set_any (λ y. (entry_in y).stamps.write ≤ later) s.slots i k x empty fits.0
+        slots_written = λ k. set_any (λ y. (slot_entry y).stamps.write ≤ later) s.slots i k x empty_slot fits.0
             (let h = sound.slots_written k in omega arith);
-        slots_read = λ k. set_any (λ y. (entry_in y).stamps.read.0 ≤ later) s.slots i k x empty fits.1
+        slots_read = λ k. set_any (λ y. (slot_entry y).stamps.read.0 ≤ later) s.slots i k x empty_slot fits.1
             (let h = sound.slots_read k in omega arith);
         filter_written = w.written;
         filter_read = w.read;
         slots_stamped = λ k.
-            set_any (λ y. 0 < stores_told (entry_in y) → 0 < (entry_in y).stamps.write) s.slots i k x empty fits.2
+            set_any (λ y. 0 < entry_stores (slot_entry y) → 0 < (slot_entry y).stamps.write) s.slots i k x empty_slot fits.2
             (sound.slots_stamped k);
       }
 
@@ -116,7 +116,7 @@ module _ (s : Condensed) (sound : Sound s) where
     sifted = record { slots = s.slots; filter = filter; latest = later }
 
     pub sound_sifted : s.latest ≤ later → Within filter later
-        → Sound (record { slots = s.slots; filter = filter; latest = later })
+        → IsSound (record { slots = s.slots; filter = filter; latest = later })
     sound_sifted up w =
         record {
           sixteen = sound.sixteen;
@@ -132,90 +132,90 @@ module _ (s : Condensed) (sound : Sound s) where
 
     from_kept :
         (n : ℕ) (o : Option ℕ) → Grown s.filter filter
-        → Kept (told_from s.slots s.filter n o) (told_from s.slots filter n o)
-    from_kept n None up = kept_free (filter_told s.filter (indices_of n)) (filter_told filter (indices_of n))
+        → Kept (entry_from s.slots s.filter n o) (entry_from s.slots filter n o)
+    from_kept n None up = kept_free (filter_stamps s.filter (indices_of n)) (filter_stamps filter (indices_of n))
         (told_grows s.filter filter (indices_of n) up)
-    from_kept n (Some i) up = kept_same (entry_in (get_or s.slots i empty)) (entry_in (get_or s.slots i empty)) refl
+    from_kept n (Some i) up = kept_same (slot_entry (get_or s.slots i empty_slot)) (slot_entry (get_or s.slots i empty_slot)) refl
 
     pub sifted_kept :
         Grown s.filter filter → (n : ℕ) → n < line_limit
-        → Kept (told s n) (told (record { slots = s.slots; filter = filter; latest = later }) n)
+        → Kept (line_entry s n) (line_entry (record { slots = s.slots; filter = filter; latest = later }) n)
     unfolding sifted
     sifted_kept up n lt =
-        subst (λ a. Kept a (told sifted n)) (sym (told_inside s n lt))
-        (subst (λ b. Kept (told_from s.slots s.filter n (slot_of s.slots n)) b) (sym (told_inside sifted n lt))
+        subst (λ a. Kept a (line_entry sifted n)) (sym (told_inside s n lt))
+        (subst (λ b. Kept (entry_from s.slots s.filter n (slot_of s.slots n)) b) (sym (told_inside sifted n lt))
         (from_kept n (slot_of s.slots n) up))
 
   -- The entry of a line in its slot is set.
   module _ (line i : ℕ) (lt : line < line_limit) (here : slot_of s.slots line ≡ Some i) (e : Entry) (later : ℕ) where
     x : Slot
-    x = holding line e
+    x = slot_holding line e
 
     at_line : Spot s.slots line (Some i)
     at_line = subst (Spot s.slots line) here (spot s.slots line)
 
-    its_line : Some line ≡ (line_in (get_or s.slots i empty))
-    its_line = sym (line_is (line_in (get_or s.slots i empty)) line at_line.1)
+    its_line : Some line ≡ (slot_line (get_or s.slots i empty_slot))
+    its_line = sym (line_is (slot_line (get_or s.slots i empty_slot)) line at_line.1)
 
     changed : Condensed
-    changed = record { slots = in_slot s line i e; filter = s.filter; latest = later }
+    changed = record { slots = slots_with s line i e; filter = s.filter; latest = later }
 
-    pub changed_here : told (record { slots = in_slot s line i e; filter = s.filter; latest = later }) line ≡ e
+    pub changed_here : line_entry (record { slots = slots_with s line i e; filter = s.filter; latest = later }) line ≡ e
     unfolding changed x
     changed_here =
         told_inside changed line lt
-        ∙ ap (told_from (in_slot s line i e) s.filter line) (slot_same s.slots i x its_line line ∙ here)
-        ∙ ap entry_in (get_or-set_same s.slots i x empty at_line.0)
+        ∙ ap (entry_from (slots_with s line i e) s.filter line) (slot_same s.slots i x its_line line ∙ here)
+        ∙ ap slot_entry (get_or-set_same s.slots i x empty_slot at_line.0)
 
     apart_from : (n : ℕ) (o : Option ℕ) → (n ≢ line) → Spot s.slots n o
-        → told_from (in_slot s line i e) s.filter n o ≡ told_from s.slots s.filter n o
+        → entry_from (slots_with s line i e) s.filter n o ≡ entry_from s.slots s.filter n o
     unfolding x
     apart_from n None ne sp = refl
     apart_from n (Some j) ne sp =
-        ap entry_in (get_or-set_other s.slots i j x empty (λ same. ne (one_line j same sp.1)))
+        ap slot_entry (get_or-set_other s.slots i j x empty_slot (λ same. ne (one_line j same sp.1)))
       where
-        one_line : (k : ℕ) → k ≡ i → holds (slice_index_or s.slots k empty) n ≡ true → n ≡ line
+        one_line : (k : ℕ) → k ≡ i → slot_holds (slice_index_or s.slots k empty_slot) n ≡ true → n ≡ line
         one_line k same h =
-            let a = line_is (line_in (get_or s.slots k empty)) n h in
-            let b = line_is (line_in (get_or s.slots i empty)) line at_line.1 in
-            let c = ap (λ m. (line_in (get_or s.slots m empty))) same in
+            let a = line_is (slot_line (get_or s.slots k empty_slot)) n h in
+            let b = line_is (slot_line (get_or s.slots i empty_slot)) line at_line.1 in
+            let c = ap (λ m. (slot_line (get_or s.slots m empty_slot))) same in
             cc
 
     pub changed_apart :
         (n : ℕ) → n < line_limit → (n ≢ line)
-        → told (record { slots = in_slot s line i e; filter = s.filter; latest = later }) n ≡ told s n
+        → line_entry (record { slots = slots_with s line i e; filter = s.filter; latest = later }) n ≡ line_entry s n
     unfolding changed x
     changed_apart n within ne =
         told_inside changed n within
-        ∙ ap (told_from (in_slot s line i e) s.filter n) (slot_same s.slots i x its_line n)
+        ∙ ap (entry_from (slots_with s line i e) s.filter n) (slot_same s.slots i x its_line n)
         ∙ apart_from n (slot_of s.slots n) ne (spot s.slots n) ∙ sym (told_inside s n within)
 
     pub sound_changed :
-        s.latest ≤ later → FitsBy later e
-        → Sound (record { slots = in_slot s line i e; filter = s.filter; latest = later })
+        s.latest ≤ later → FitsWithin later e
+        → IsSound (record { slots = slots_with s line i e; filter = s.filter; latest = later })
     unfolding x
     sound_changed up fits =
         sound_with i x s.filter later up fits
         (λ a b h. sound.apart a b
-        (subst (λ l. same_line l (line_in (get_or s.slots b empty)) ≡ true) (line_same s.slots i x its_line a)
-        (subst (λ l. same_line (line_in (get_or (slice_set s.slots i x) a empty)) l ≡ true)
+        (subst (λ l. same_line l (slot_line (get_or s.slots b empty_slot)) ≡ true) (line_same s.slots i x its_line a)
+        (subst (λ l. same_line (slot_line (get_or (slice_set s.slots i x) a empty_slot)) l ≡ true)
         (line_same s.slots i x its_line b) h)))
         (λ a n h. sound.numbered a n (subst (λ l. is_line l n ≡ true) (line_same s.slots i x its_line a) h))
         (within_later s.filter s.latest later within_now up)
 
   -- Whoever is turned out raises its entries; nobody's entries get earlier.
-  out_grows : (line : ℕ) (stamps : Stamps) (o : Option ℕ) → Grown s.filter (raised_for s.filter stamps line o)
+  out_grows : (line : ℕ) (stamps : Stamps) (o : Option ℕ) → Grown s.filter (filter_raised_for s.filter stamps line o)
   out_grows line stamps None = λ way k. stamps_same (stamps_at s.filter way k)
   out_grows line stamps (Some m) =
-      cond_both (m == line) s.filter (filter_raised s.filter (indices_of m) stamps) (Grown s.filter)
+      cond_both (m == line) s.filter (filter_raised_to s.filter (indices_of m) stamps) (Grown s.filter)
       (λ _ way k. stamps_same (stamps_at s.filter way k)) (λ _. raised_grows s.filter (indices_of m) stamps)
 
   pub out_within :
       (line : ℕ) (stamps : Stamps) (o : Option ℕ) → stamps.write ≤ s.latest → stamps.read.0 ≤ s.latest
-      → Within (raised_for s.filter stamps line o) s.latest
+      → Within (filter_raised_for s.filter stamps line o) s.latest
   out_within line stamps None w r = within_now
   out_within line stamps (Some m) w r =
-      cond_both (m == line) s.filter (filter_raised s.filter (indices_of m) stamps) (λ f. Within f s.latest)
+      cond_both (m == line) s.filter (filter_raised_to s.filter (indices_of m) stamps) (λ f. Within f s.latest)
       (λ _. within_now)
       (λ _. within_raised s.filter s.latest s.latest (indices_of m) stamps within_now (omega arith) w r)
 
@@ -223,51 +223,51 @@ module _ (s : Condensed) (sound : Sound s) where
   module _ (line i : ℕ) (lt : line < line_limit) (nowhere : slot_of s.slots line ≡ None)
       (room : i < length s.slots) (e : Entry) where
     abbrev new : Slot
-    new = holding line e
+    new = slot_holding line e
 
     abbrev moved : List Slot
-    moved = in_slot s line i e
+    moved = slots_with s line i e
 
-    not_there : (k : ℕ) → holds (slice_index_or s.slots k empty) line ≢ true
+    not_there : (k : ℕ) → slot_holds (slice_index_or s.slots k empty_slot) line ≢ true
     not_there k h = both_ways _ (subst (Spot s.slots line) nowhere (spot s.slots line) k) h
 
-    pub moved_apart : Apart (in_slot s line i e)
+    pub moved_apart : HoldDistinctLines (slots_with s line i e)
     moved_apart a b =
-        set_cases (λ y. same_line (line_in y) (line_in (get_or moved b empty)) ≡ true → a ≡ b)
-        s.slots i a new empty room
+        set_cases (λ y. same_line (slot_line y) (slot_line (get_or moved b empty_slot)) ≡ true → a ≡ b)
+        s.slots i a new empty_slot room
         (λ at.
-        set_cases (λ z. same_line (Some line) (line_in z) ≡ true → a ≡ b) s.slots i b new empty room
+        set_cases (λ z. same_line (Some line) (slot_line z) ≡ true → a ≡ b) s.slots i b new empty_slot room
         (λ same _. at ∙ sym same)
         (λ _ h. absurd (not_there b h)))
         (λ _.
-        set_cases (λ z. same_line (line_in (get_or s.slots a empty)) (line_in z) ≡ true → a ≡ b)
-        s.slots i b new empty room
-        (λ _ h. absurd (not_there a (same_back (line_in (get_or s.slots a empty)) line h))) (λ _. sound.apart a b))
+        set_cases (λ z. same_line (slot_line (get_or s.slots a empty_slot)) (slot_line z) ≡ true → a ≡ b)
+        s.slots i b new empty_slot room
+        (λ _ h. absurd (not_there a (same_back (slot_line (get_or s.slots a empty_slot)) line h))) (λ _. sound.apart a b))
 
-    pub moved_numbered : Numbered (in_slot s line i e)
+    pub moved_numbered : HoldNumberedLines (slots_with s line i e)
     moved_numbered a n =
-        set_any (λ y. holds y n ≡ true → n < line_limit) s.slots i a new empty
+        set_any (λ y. slot_holds y n ≡ true → n < line_limit) s.slots i a new empty_slot
         (λ h. subst (λ m. m < line_limit) (eqb-true line n h) lt) (sound.numbered a n)
 
   -- No store holds the line that was in the slot, if there was one.
   module _ (line i : ℕ) (lt : line < line_limit) (nowhere : slot_of s.slots line ≡ None)
       (room : i < length s.slots)
-      (free : stores_told (entry_in (get_or s.slots i empty)) ≡ 0)
+      (free : entry_stores (slot_entry (get_or s.slots i empty_slot)) ≡ 0)
       (e : Entry) (later : ℕ) where
-    apart_now : Apart (in_slot s line i e)
+    apart_now : HoldDistinctLines (slots_with s line i e)
     apart_now = moved_apart line i lt nowhere room e
 
     abbrev there : Slot
-    there = holding line e
+    there = slot_holding line e
 
     abbrev old : Slot
-    old = slice_index_or s.slots i empty
+    old = slice_index_or s.slots i empty_slot
 
     abbrev now_in : List Slot
-    now_in = in_slot s line i e
+    now_in = slots_with s line i e
 
     abbrev left : List (List Stamps)
-    left = turned_out s.filter (slice_index_or s.slots i empty) line
+    left = filter_after_eviction s.filter (slice_index_or s.slots i empty_slot) line
 
     abbrev after : Condensed
     after = moved_to s line i e later
@@ -275,77 +275,77 @@ module _ (s : Condensed) (sound : Sound s) where
     in_moved : slot_of now_in line ≡ Some i
     in_moved =
         found_in now_in apart_now line i
-        (subst (λ y. holds y line ≡ true) (sym (get_or-set_same s.slots i there empty room)) (eq-eqb line line refl))
+        (subst (λ y. slot_holds y line ≡ true) (sym (get_or-set_same s.slots i there empty_slot room)) (eq-eqb line line refl))
 
-    pub moved_here : told (moved_to s line i e later) line ≡ e
+    pub moved_here : line_entry (moved_to s line i e later) line ≡ e
     moved_here =
-        told_inside after line lt ∙ ap (told_from now_in after.filter line) in_moved
-        ∙ ap entry_in (get_or-set_same s.slots i there empty room)
+        told_inside after line lt ∙ ap (entry_from now_in after.filter line) in_moved
+        ∙ ap slot_entry (get_or-set_same s.slots i there empty_slot room)
 
     out_reaches :
-        (n : ℕ) → (n ≢ line) → line_in old ≡ Some n → NoEarlier (entry_in old).stamps
-        (filter_told left (indices_of n))
+        (n : ℕ) → (n ≢ line) → slot_line old ≡ Some n → NoEarlier (slot_entry old).stamps
+        (filter_stamps left (indices_of n))
     out_reaches n ne is =
-        let stamps : Stamps = (entry_in (get_or s.slots i empty)).stamps in
-        let gone : left ≡ filter_raised s.filter (indices_of n) stamps =
-        ap (raised_for s.filter stamps line) is
-        ∙ cond-false (n == line) s.filter (filter_raised s.filter (indices_of n) stamps) (ne_eqb n line ne) in
-        subst (λ f. NoEarlier stamps (filter_told f (indices_of n))) (sym gone)
+        let stamps : Stamps = (slot_entry (get_or s.slots i empty_slot)).stamps in
+        let gone : left ≡ filter_raised_to s.filter (indices_of n) stamps =
+        ap (filter_raised_for s.filter stamps line) is
+        ∙ cond-false (n == line) s.filter (filter_raised_to s.filter (indices_of n) stamps) (ne_eqb n line ne) in
+        subst (λ f. NoEarlier stamps (filter_stamps f (indices_of n))) (sym gone)
         (raised_reaches s.filter (indices_of n) stamps sound.four_ways (indices_inside n))
 
     -- No slot holds a line that no other slot than the taken one held.
     gone_from :
-        (n : ℕ) → (n ≢ line) → ((k : ℕ) → (k ≢ i) → holds (slice_index_or s.slots k empty) n ≡ false)
+        (n : ℕ) → (n ≢ line) → ((k : ℕ) → (k ≢ i) → slot_holds (slice_index_or s.slots k empty_slot) n ≡ false)
         → slot_of now_in n ≡ None
     gone_from n ne others =
         none_found now_in n
-        (λ k _. set_cases (λ y. holds y n ≡ false) s.slots i k there empty room
+        (λ k _. set_cases (λ y. slot_holds y n ≡ false) s.slots i k there empty_slot room
         (λ _. ne_eqb line n (λ e. ne (sym e))) (others k))
 
     moved_from :
         (n : ℕ) → (n ≢ line) → (o : Option ℕ) → Spot s.slots n o
-        → Kept (told_from s.slots s.filter n o) (told_from now_in left n (slot_of now_in n))
+        → Kept (entry_from s.slots s.filter n o) (entry_from now_in left n (slot_of now_in n))
     moved_from n ne None sp =
-        let up : Grown s.filter left = out_grows line (entry_in (get_or s.slots i empty)).stamps
-        (line_in (get_or s.slots i empty)) in
-        subst (λ o. Kept (told_from s.slots s.filter n None) (told_from now_in left n o))
+        let up : Grown s.filter left = out_grows line (slot_entry (get_or s.slots i empty_slot)).stamps
+        (slot_line (get_or s.slots i empty_slot)) in
+        subst (λ o. Kept (entry_from s.slots s.filter n None) (entry_from now_in left n o))
         (sym (gone_from n ne (λ k _. sp k)))
         (kept_free _ _ (told_grows s.filter left (indices_of n) up))
     moved_from n ne (Some j) sp = ⊎_elim taken stays (cases_eq j i)
       where
-        stays : (j ≢ i) → Kept (entry_in (get_or s.slots j empty)) (told_from now_in left n (slot_of now_in n))
+        stays : (j ≢ i) → Kept (slot_entry (get_or s.slots j empty_slot)) (entry_from now_in left n (slot_of now_in n))
         stays apart =
-            let same : get_or now_in j empty ≡ get_or s.slots j empty =
-            get_or-set_other s.slots i j there empty apart in
+            let same : get_or now_in j empty_slot ≡ get_or s.slots j empty_slot =
+            get_or-set_other s.slots i j there empty_slot apart in
             let found : slot_of now_in n ≡ Some j =
-            found_in now_in apart_now n j (subst (λ y. holds y n ≡ true) (sym same) sp.1) in
-            kept_same _ _ (ap (told_from now_in left n) found ∙ ap entry_in same)
+            found_in now_in apart_now n j (subst (λ y. slot_holds y n ≡ true) (sym same) sp.1) in
+            kept_same _ _ (ap (entry_from now_in left n) found ∙ ap slot_entry same)
 
-        taken : j ≡ i → Kept (entry_in (get_or s.slots j empty)) (told_from now_in left n (slot_of now_in n))
+        taken : j ≡ i → Kept (slot_entry (get_or s.slots j empty_slot)) (entry_from now_in left n (slot_of now_in n))
         taken at =
-            let held : holds (slice_index_or s.slots i empty) n ≡ true =
-            subst (λ k. holds (slice_index_or s.slots k empty) n ≡ true) at sp.1 in
-            let is : (line_in (get_or s.slots i empty)) ≡ Some n = line_is (line_in (get_or s.slots i empty)) n held in
+            let held : slot_holds (slice_index_or s.slots i empty_slot) n ≡ true =
+            subst (λ k. slot_holds (slice_index_or s.slots k empty_slot) n ≡ true) at sp.1 in
+            let is : (slot_line (get_or s.slots i empty_slot)) ≡ Some n = line_is (slot_line (get_or s.slots i empty_slot)) n held in
             let gone : slot_of now_in n ≡ None =
             gone_from n ne
             (λ k other. false_from_ne_true _ (λ h. other (sound.apart k i
-            (same_from (line_in (get_or s.slots k empty)) (line_in (get_or s.slots i empty)) n h held)))) in
-            subst (λ k. Kept (entry_in (get_or s.slots k empty)) (told_from now_in left n (slot_of now_in n))) (sym at)
-            (subst (λ o. Kept (entry_in (get_or s.slots i empty)) (told_from now_in left n o)) (sym gone)
-            (kept_out (entry_in (get_or s.slots i empty)) (filter_told left (indices_of n)) free
+            (same_from (slot_line (get_or s.slots k empty_slot)) (slot_line (get_or s.slots i empty_slot)) n h held)))) in
+            subst (λ k. Kept (slot_entry (get_or s.slots k empty_slot)) (entry_from now_in left n (slot_of now_in n))) (sym at)
+            (subst (λ o. Kept (slot_entry (get_or s.slots i empty_slot)) (entry_from now_in left n o)) (sym gone)
+            (kept_out (slot_entry (get_or s.slots i empty_slot)) (filter_stamps left (indices_of n)) free
             (out_reaches n ne is)))
 
-    pub moved_kept : (n : ℕ) → n < line_limit → (n ≢ line) → Kept (told s n) (told (moved_to s line i e later) n)
+    pub moved_kept : (n : ℕ) → n < line_limit → (n ≢ line) → Kept (line_entry s n) (line_entry (moved_to s line i e later) n)
     moved_kept n within ne =
-        subst (λ a. Kept a (told after n)) (sym (told_inside s n within))
-        (subst (λ b. Kept (told_from s.slots s.filter n (slot_of s.slots n)) b)
+        subst (λ a. Kept a (line_entry after n)) (sym (told_inside s n within))
+        (subst (λ b. Kept (entry_from s.slots s.filter n (slot_of s.slots n)) b)
         (sym (told_inside after n within))
         (moved_from n ne (slot_of s.slots n) (spot s.slots n)))
 
-    pub sound_moved : s.latest ≤ later → FitsBy later e → Sound (moved_to s line i e later)
+    pub sound_moved : s.latest ≤ later → FitsWithin later e → IsSound (moved_to s line i e later)
     sound_moved up fits =
         sound_with i there left later up fits apart_now (moved_numbered line i lt nowhere room e)
         (within_later left s.latest later
-        (out_within line (entry_in (get_or s.slots i empty)).stamps (line_in (get_or s.slots i empty))
+        (out_within line (slot_entry (get_or s.slots i empty_slot)).stamps (slot_line (get_or s.slots i empty_slot))
         (sound.slots_written i) (sound.slots_read i))
         up)

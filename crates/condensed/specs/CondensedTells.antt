@@ -6,14 +6,14 @@ use Rattle.std.proofs.lemmas.List.{get_or-map, length-map}
 use Rattle.std.proofs.lemmas.Bool.Decides.{nat_tests}
 use Rattle.std.proofs.lemmas.Bool.{cond-true, ne_eqb, eq-eqb, lt-ltb, and_from, both_ways, not_from_false}
 use Rattle.protocol.specs.Limits.{line_limit}
-use Rattle.choice.specs.Rule.{Chosen, FirstSmallest, chosen}
+use Rattle.choice.specs.Rule.{IsChoice, FirstSmallest, choice_of}
 use Rattle.choice.proofs.Law.{choice_law, within}
-use Rattle.book.specs.Meaning.{Tells, reserved, reserved_lines}
-use Rattle.book.specs.Entries.{untouched, stores_told}
+use Rattle.book.specs.Meaning.{IsSoundLine, is_reserved, reserved_count}
+use Rattle.book.specs.Entries.{untouched_entry, entry_stores}
 use Rattle.condensed.specs.Filter.{indices_of}
-use Rattle.condensed.specs.Condensed.{Condensed, Sound, condensed, empty, is_line, line_of, entry_of, line_in, entry_in}
-use Rattle.condensed.specs.Condensed.{holds, slot_of, slot_key, key_of}
-use Rattle.condensed.specs.Condensed.{or_else, place_for, told_from, told}
+use Rattle.condensed.specs.Condensed.{Condensed, IsSound, condensed, empty_slot, is_line, occupant_line, occupant_entry, slot_line, slot_entry}
+use Rattle.condensed.specs.Condensed.{slot_holds, slot_of, slot_key, occupant_key}
+use Rattle.condensed.specs.Condensed.{or_else, place_for, entry_from, line_entry}
 use Rattle.book.specs.declared.entry.Entry.{Entry}
 use Rattle.condensed.specs.declared.slot.Occupant.{Occupant}
 use Rattle.condensed.specs.declared.slot.Slot.{Slot}
@@ -23,19 +23,19 @@ use Rattle.condensed.specs.Slots.{Spot, spot, line_is, found_in, same_from}
 use Rattle.book.specs.Counting.{different_lines, placed_lines}
 
 -- A line with a number is told from its slot or from the filter.
-pub told_inside : (s : Condensed) (n : ℕ) → n < line_limit → told s n
-    ≡ told_from s.slots s.filter n (slot_of s.slots n)
+pub told_inside : (s : Condensed) (n : ℕ) → n < line_limit → line_entry s n
+    ≡ entry_from s.slots s.filter n (slot_of s.slots n)
 told_inside s n lt =
-    cond-true (nat_lt n line_limit) (told_from s.slots s.filter n (slot_of s.slots n)) untouched
+    cond-true (nat_lt n line_limit) (entry_from s.slots s.filter n (slot_of s.slots n)) untouched_entry
     (lt-ltb n line_limit lt)
 
 -- The slot of a line that is reserved, as its key is none.
-no_key : (o : Option Occupant) → key_of o ≡ None
-    → (n : ℕ) × (is_line (line_of o) n ≡ true) × (0 < stores_told (entry_of o))
+no_key : (o : Option Occupant) → occupant_key o ≡ None
+    → (n : ℕ) × (is_line (occupant_line o) n ≡ true) × (0 < entry_stores (occupant_entry o))
 no_key None h = absurd cc
 no_key (Some there) h = (there.line, eq-eqb there.line there.line refl, grind (arith, nat_tests))
 
-some_key : (o : Option Occupant) (key : ℕ) → key_of o ≡ Some key → stores_told (entry_of o) ≡ 0
+some_key : (o : Option Occupant) (key : ℕ) → occupant_key o ≡ Some key → entry_stores (occupant_entry o) ≡ 0
 some_key None key h = refl
 some_key (Some there) key h = grind (arith, nat_tests)
 
@@ -44,124 +44,124 @@ too_many n few all = absurd (omega arith)
 
 -- A chosen slot is a slot, and no store holds the line in it.
 pub chosen_free :
-    (slots : List Slot) (place : ℕ) → chosen (map slot_key slots) ≡ Some place
-    → (place < length slots) × (stores_told (entry_in (get_or slots place empty)) ≡ 0)
+    (slots : List Slot) (place : ℕ) → choice_of (map slot_key slots) ≡ Some place
+    → (place < length slots) × (entry_stores (slot_entry (get_or slots place empty_slot)) ≡ 0)
 chosen_free slots place is =
-    let law : FirstSmallest (map slot_key slots) place = subst (Chosen (map slot_key slots)) is
+    let law : FirstSmallest (map slot_key slots) place = subst (IsChoice (map slot_key slots)) is
     (choice_law (map slot_key slots)) in
     let room : place < length (map slot_key slots) = within (map slot_key slots) place law.key law.allowed in
     let lt : place < length slots = subst (λ n. place < n) (length-map slots slot_key) room in
-    let key : slot_key (slice_index_or slots place empty) ≡ Some law.key =
-    sym (get_or-map slot_key slots place empty None lt) ∙ law.allowed in
-    (lt, some_key (get_or slots place empty).occupant law.key key)
+    let key : slot_key (slice_index_or slots place empty_slot) ≡ Some law.key =
+    sym (get_or-map slot_key slots place empty_slot None lt) ∙ law.allowed in
+    (lt, some_key (get_or slots place empty_slot).occupant law.key key)
 
-module _ (s : Condensed) (sound : Sound s) where
-  bound_written : (n : ℕ) (o : Option ℕ) → (told_from s.slots s.filter n o).stamps.write ≤ s.latest
+module _ (s : Condensed) (sound : IsSound s) where
+  bound_written : (n : ℕ) (o : Option ℕ) → (entry_from s.slots s.filter n o).stamps.write ≤ s.latest
   bound_written n None = told_written s.filter (indices_of n) s.latest sound.filter_written
   bound_written n (Some i) = sound.slots_written i
 
-  bound_read : (n : ℕ) (o : Option ℕ) → (told_from s.slots s.filter n o).stamps.read.0 ≤ s.latest
+  bound_read : (n : ℕ) (o : Option ℕ) → (entry_from s.slots s.filter n o).stamps.read.0 ≤ s.latest
   bound_read n None = told_read s.filter (indices_of n) s.latest sound.filter_read
   bound_read n (Some i) = sound.slots_read i
 
-  held_stamped : (n : ℕ) (o : Option ℕ) → 0 < stores_told (told_from s.slots s.filter n o)
-      → 0 < (told_from s.slots s.filter n o).stamps.write
+  held_stamped : (n : ℕ) (o : Option ℕ) → 0 < entry_stores (entry_from s.slots s.filter n o)
+      → 0 < (entry_from s.slots s.filter n o).stamps.write
   held_stamped n None h = absurd (omega arith)
   held_stamped n (Some i) h = sound.slots_stamped i h
 
   -- A line that stores hold is in a slot.
-  held_placed : (n : ℕ) (o other : Option ℕ) → 0 < stores_told (told_from s.slots s.filter n o)
+  held_placed : (n : ℕ) (o other : Option ℕ) → 0 < entry_stores (entry_from s.slots s.filter n o)
       → is_some (or_else o other) ≡ true
   held_placed n None other h = absurd (omega arith)
   held_placed n (Some i) other h = refl
 
   pub line_at : ℕ → ℕ
-  line_at k = elim (line_in (get_or s.slots k empty)) [ None ↦ 0 | Some n ↦ n ]
+  line_at k = elim (slot_line (get_or s.slots k empty_slot)) [ None ↦ 0 | Some n ↦ n ]
 
   -- Each reserved line is in a slot of its own, so no more than sixteen are reserved.
   in_slots :
-      (n : ℕ) (o : Option ℕ) → Spot s.slots n o → 0 < stores_told (told_from s.slots s.filter n o)
-      → (i : ℕ) × (i < 16) × (line_at i ≡ n) × (0 < stores_told (entry_in (get_or s.slots i empty)))
+      (n : ℕ) (o : Option ℕ) → Spot s.slots n o → 0 < entry_stores (entry_from s.slots s.filter n o)
+      → (i : ℕ) × (i < 16) × (line_at i ≡ n) × (0 < entry_stores (slot_entry (get_or s.slots i empty_slot)))
   unfolding line_at
   in_slots n None sp held = absurd (omega arith)
   in_slots n (Some i) sp held =
       let sixteen = sound.sixteen in
-      let is : line_in (get_or s.slots i empty) ≡ Some n = line_is (line_in (get_or s.slots i empty)) n sp.1 in
+      let is : slot_line (get_or s.slots i empty_slot) ≡ Some n = line_is (slot_line (get_or s.slots i empty_slot)) n sp.1 in
       (i, omega (arith, sp.0), ap (λ o. elim o [ None ↦ 0 | Some m ↦ m ]) is, held)
 
   pub held_in :
-      (n : ℕ) → n < line_limit → reserved condensed s n ≡ true
-      → (i : ℕ) × (i < 16) × (line_at i ≡ n) × (0 < stores_told (entry_in (get_or s.slots i empty)))
+      (n : ℕ) → n < line_limit → is_reserved condensed s n ≡ true
+      → (i : ℕ) × (i < 16) × (line_at i ≡ n) × (0 < entry_stores (slot_entry (get_or s.slots i empty_slot)))
   held_in n lt held =
       in_slots n (slot_of s.slots n) (spot s.slots n)
-      (subst (λ e. 0 < stores_told e) (told_inside s n lt) (held_counts (stores_told (told s n)) held))
+      (subst (λ e. 0 < entry_stores e) (told_inside s n lt) (held_counts (entry_stores (line_entry s n)) held))
 
-  pub condensed_within : reserved_lines condensed s ≤ 16
+  pub condensed_within : reserved_count condensed s ≤ 16
   condensed_within =
-      placed_lines 16 line_limit line_at (reserved condensed s)
+      placed_lines 16 line_limit line_at (is_reserved condensed s)
       (λ n lt held. let place = held_in n lt held in (place.0, place.1, place.2))
 
   -- Where no slot may be taken, sixteen lines are reserved.
-  module _ (full : (k : ℕ) → k < 16 → slot_key (slice_index_or s.slots k empty) ≡ None) where
-    in_line : (k : ℕ) → k < 16 → holds (slice_index_or s.slots k empty) (line_at k) ≡ true
+  module _ (full : (k : ℕ) → k < 16 → slot_key (slice_index_or s.slots k empty_slot) ≡ None) where
+    in_line : (k : ℕ) → k < 16 → slot_holds (slice_index_or s.slots k empty_slot) (line_at k) ≡ true
     unfolding line_at
     in_line k l =
-        let found = no_key (get_or s.slots k empty).occupant (full k l) in
-        by (line_in (get_or s.slots k empty)) found.0 found.1
+        let found = no_key (get_or s.slots k empty_slot).occupant (full k l) in
+        by (slot_line (get_or s.slots k empty_slot)) found.0 found.1
       where
         by : (o : Option ℕ) (n : ℕ) → is_line o n ≡ true → is_line o (elim o [ None ↦ 0 | Some m ↦ m ]) ≡ true
         by None n h = absurd (both_ways false refl h)
         by (Some m) n h = eq-eqb m m refl
 
-    held_line : (k : ℕ) → k < 16 → reserved condensed s (line_at k) ≡ true
+    held_line : (k : ℕ) → k < 16 → is_reserved condensed s (line_at k) ≡ true
     held_line k l =
-        let found = no_key (get_or s.slots k empty).occupant (full k l) in
+        let found = no_key (get_or s.slots k empty_slot).occupant (full k l) in
         let here = in_line k l in
         let lt = sound.numbered k (line_at k) here in
-        let is : told s (line_at k) ≡ (entry_in (get_or s.slots k empty)) =
+        let is : line_entry s (line_at k) ≡ (slot_entry (get_or s.slots k empty_slot)) =
         told_inside s (line_at k) lt
-        ∙ ap (told_from s.slots s.filter (line_at k)) (found_in s.slots sound.apart (line_at k) k here) in
-        not_from_false _ (ap (λ e. nat_eq (stores_told e) 0) is
-        ∙ ne_eqb (stores_told (entry_in (get_or s.slots k empty))) 0 (let h = found.2 in omega arith))
+        ∙ ap (entry_from s.slots s.filter (line_at k)) (found_in s.slots sound.apart (line_at k) k here) in
+        not_from_false _ (ap (λ e. nat_eq (entry_stores e) 0) is
+        ∙ ne_eqb (entry_stores (slot_entry (get_or s.slots k empty_slot))) 0 (let h = found.2 in omega arith))
 
-    pub all_reserved : 16 ≤ reserved_lines condensed s
+    pub all_reserved : 16 ≤ reserved_count condensed s
     all_reserved =
-        different_lines 16 line_limit line_at (reserved condensed s)
+        different_lines 16 line_limit line_at (is_reserved condensed s)
         (λ k l. (sound.numbered k (line_at k) (in_line k l), held_line k l))
         (λ i j l m e. sound.apart i j
-        (same_from (line_in (get_or s.slots i empty)) (line_in (get_or s.slots j empty)) (line_at i) (in_line i l)
-        (subst (λ n. holds (slice_index_or s.slots j empty) n ≡ true) (sym e) (in_line j m))))
+        (same_from (slot_line (get_or s.slots i empty_slot)) (slot_line (get_or s.slots j empty_slot)) (line_at i) (in_line i l)
+        (subst (λ n. slot_holds (slice_index_or s.slots j empty_slot) n ≡ true) (sym e) (in_line j m))))
 
   some_place :
-      (o other : Option ℕ) → other ≡ chosen (map slot_key s.slots) → reserved_lines condensed s < 16
+      (o other : Option ℕ) → other ≡ choice_of (map slot_key s.slots) → reserved_count condensed s < 16
       → is_some (or_else o other) ≡ true
   some_place (Some i) other is few = refl
   some_place None (Some i) is few = refl
   some_place None None is few =
-      let none : Chosen (map slot_key s.slots) None = subst (Chosen (map slot_key s.slots)) (sym is)
+      let none : IsChoice (map slot_key s.slots) None = subst (IsChoice (map slot_key s.slots)) (sym is)
       (choice_law (map slot_key s.slots)) in
       let all = all_reserved (λ k l.
-      sym (get_or-map slot_key s.slots k empty None (subst (λ m. k < m) (sym sound.sixteen) l)) ∙ none k) in
-      too_many (reserved_lines condensed s) few all
+      sym (get_or-map slot_key s.slots k empty_slot None (subst (λ m. k < m) (sym sound.sixteen) l)) ∙ none k) in
+      too_many (reserved_count condensed s) few all
 
-  pub condensed_tells : (line : ℕ) → line < line_limit → Tells condensed s line
+  pub condensed_tells : (line : ℕ) → line < line_limit → IsSoundLine condensed s line
   condensed_tells line lt =
-      let e : Entry = told s line in
+      let e : Entry = line_entry s line in
       let o : Option ℕ = slot_of s.slots line in
-      let from : e ≡ told_from s.slots s.filter line o = told_inside s line lt in
+      let from : e ≡ entry_from s.slots s.filter line o = told_inside s line lt in
       record {
         stamp_bound = subst (λ x. x.stamps.write ≤ s.latest) (sym from) (bound_written line o);
         mark_bound = subst (λ x. x.stamps.read.0 ≤ s.latest) (sym from) (bound_read line o);
         owned = λ h. (_, held_has_owner e h);
         stamped = λ h.
-            subst (λ x. 0 < stores_told x → 0 < x.stamps.write) (sym from) (held_stamped line o)
-            (held_counts (stores_told e) h);
+            subst (λ x. 0 < entry_stores x → 0 < x.stamps.write) (sym from) (held_stamped line o)
+            (held_counts (entry_stores e) h);
         placed = λ h.
             and_from (nat_lt line line_limit) (is_some (place_for s.slots line)) (lt-ltb line line_limit lt)
-            (held_placed line o (chosen (map slot_key s.slots))
-            (subst (λ x. 0 < stores_told x) from (held_counts (stores_told e) h)));
+            (held_placed line o (choice_of (map slot_key s.slots))
+            (subst (λ x. 0 < entry_stores x) from (held_counts (entry_stores e) h)));
         ownerless = λ h. free_has_none e h;
         room = λ few.
             and_from (nat_lt line line_limit) (is_some (place_for s.slots line)) (lt-ltb line line_limit lt)
-            (some_place o (chosen (map slot_key s.slots)) refl few);
+            (some_place o (choice_of (map slot_key s.slots)) refl few);
       }

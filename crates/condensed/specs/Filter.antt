@@ -1,6 +1,6 @@
 -- The filter: stamps of many lines in few entries, four ways of 64.
 use Rattle.std.specs.Prelude.{◌≡◌, ℕ, Bool, true, ◌&&◌, nat_lt, ◌/◌, ◌%◌, ◌<◌, cond, List, [], ◌∷◌, length, get_or, ◌==◌, bit_xor, slice_index, slice_index_or, slice_set}
-use Rattle.book.specs.Entries.{no_stamps, raised, least}
+use Rattle.book.specs.Entries.{no_stamps, later_stamps, earlier_stamps}
 use Rattle.book.specs.declared.entry.Stamps.{Stamps}
 
 -- A line's index in a way: the exclusive or of the way's numbers for the bits set in the line's number, lowest first.
@@ -9,9 +9,9 @@ index_by [] line = 0
 index_by (number ∷ numbers) line = bit_xor (cond (line % 2 == 1) number 0) (index_by numbers (line / 2))
 
 -- Numbers that are all within a way.
-abbrev pub small : List ℕ → Bool
-small [] = true
-small (x ∷ xs) = nat_lt x 64 && small xs
+abbrev pub all_below_64 : List ℕ → Bool
+all_below_64 [] = true
+all_below_64 (x ∷ xs) = nat_lt x 64 && all_below_64 xs
 
 -- The numbers of each way.
 abbrev pub way_0 : List ℕ
@@ -31,7 +31,7 @@ abbrev pub indices_of : ℕ → List ℕ
 indices_of line = index_by way_0 line ∷ index_by way_1 line ∷ index_by way_2 line ∷ index_by way_3 line ∷ []
 
 -- Four indices, each within its way.
-pub record Inside (four : List ℕ) : Type 0 where
+pub record AreInside (four : List ℕ) : Type 0 where
   pub in_0 : get_or four 0 0 < 64
   pub in_1 : get_or four 1 0 < 64
   pub in_2 : get_or four 2 0 < 64
@@ -52,19 +52,19 @@ module _ (filter : List (List Stamps)) where
   -- One entry is raised to stamps, where it is earlier.
   abbrev pub raised_at : ℕ → ℕ → Stamps → List (List Stamps)
   raised_at way index stamps =
-      slice_set filter way (slice_set (way_at way) index (raised (stamps_at way index) stamps))
+      slice_set filter way (slice_set (way_at way) index (later_stamps (stamps_at way index) stamps))
 
 -- Told of a line is the smallest write stamp and the earliest mark of its four entries; each of the two may come from
 -- another entry.
-unfoldable pub filter_told : List (List Stamps) → List ℕ → Stamps
-filter_told filter four =
-    least
-    (least (stamps_at filter 0 (slice_index four 0)) (stamps_at filter 1 (slice_index four 1)))
-    (least (stamps_at filter 2 (slice_index four 2)) (stamps_at filter 3 (slice_index four 3)))
+unfoldable pub filter_stamps : List (List Stamps) → List ℕ → Stamps
+filter_stamps filter four =
+    earlier_stamps
+    (earlier_stamps (stamps_at filter 0 (slice_index four 0)) (stamps_at filter 1 (slice_index four 1)))
+    (earlier_stamps (stamps_at filter 2 (slice_index four 2)) (stamps_at filter 3 (slice_index four 3)))
 
 -- All four entries are raised.
-unfoldable pub filter_raised : List (List Stamps) → List ℕ → Stamps → List (List Stamps)
-filter_raised filter four stamps =
+unfoldable pub filter_raised_to : List (List Stamps) → List ℕ → Stamps → List (List Stamps)
+filter_raised_to filter four stamps =
     raised_at
     (raised_at
     (raised_at (raised_at filter 0 (slice_index four 0) stamps) 1 (slice_index four 1) stamps)

@@ -5,7 +5,7 @@ use Rattle.std.specs.Int.Bits.{xor_zero_r, xor_assoc}
 use Rattle.std.proofs.lemmas.Nat.{xor_lt, shr-shr}
 use Rattle.std.proofs.lemmas.List.{drop_more, drop_all}
 use Rattle.std.proofs.lemmas.Bool.{cond_both, ltb-true, and_parts}
-use Rattle.condensed.specs.Filter.{index_by, small, indices_of, Inside, way_0, way_1, way_2, way_3}
+use Rattle.condensed.specs.Filter.{index_by, all_below_64, indices_of, AreInside, way_0, way_1, way_2, way_3}
 
 -- One bit on: the number counts where the bit is set.
 pub index_more :
@@ -43,16 +43,16 @@ index_none numbers i index bits past = ap (λ xs. bit_xor index (index_by xs bit
     ∙ xor_zero_r index
 
 -- Numbers within a way leave an index within it.
-pub index_below : (numbers : List ℕ) → small numbers ≡ true → (line : ℕ) → index_by numbers line < 64
+pub index_below : (numbers : List ℕ) → all_below_64 numbers ≡ true → (line : ℕ) → index_by numbers line < 64
 unfolding index_by
 index_below [] ok line = omega arith
 index_below (x ∷ xs) ok line =
-    let parts = and_parts (nat_lt x 64) (small xs) ok in
+    let parts = and_parts (nat_lt x 64) (all_below_64 xs) ok in
     xor_lt 6 (cond (line % 2 == 1) x 0) (index_by xs (line / 2))
     (cond_both (line % 2 == 1) x 0 (λ y. y < 64) (λ _. ltb-true x 64 parts.0) (λ _. omega arith))
     (index_below xs parts.1 (line / 2))
 
-pub indices_inside : (line : ℕ) → Inside (indices_of line)
+pub indices_inside : (line : ℕ) → AreInside (indices_of line)
 indices_inside line =
     record {
       in_0 = index_below way_0 refl line;

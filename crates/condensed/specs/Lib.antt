@@ -1,6 +1,6 @@
 pub mod Filter
 pub mod Condensed
-pub mod Pages
+pub mod CondensedState
 pub mod Shared
 pub mod CondensedKeeps
 pub mod Indices

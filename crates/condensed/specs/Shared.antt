@@ -1,7 +1,7 @@
 -- An example of what the filter costs: lines 70, 125, 81 and 122 each share an entry with line 5.
 use Rattle.std.specs.Prelude.{◌≡◌, List, [], ◌∷◌}
 use Rattle.book.specs.Exact.{Exact, exact, exact_new}
-use Rattle.book.specs.Earliest.{run_both}
+use Rattle.book.specs.Earliest.{both_after_calls}
 use Rattle.book.specs.declared.call.BookCall.{BookCall}
 use Rattle.book.specs.declared.call.BookCall.TheVariants.{Note}
 use Rattle.condensed.specs.Condensed.{Condensed, condensed, condensed_new}
@@ -11,7 +11,7 @@ four_reads = Note 70 (9, 1) ∷ Note 125 (7, 2) ∷ Note 81 (8, 0) ∷ Note 122 
 
 -- Both books after reads of these four lines.
 abbrev pub after_four : Condensed × Exact
-after_four = run_both condensed (condensed_new, exact_new) four_reads
+after_four = both_after_calls condensed (condensed_new, exact_new) four_reads
 
 -- The exact book tells no read of line 5. The condensed book tells the earliest of the four marks.
 pub record SharedMark : Type 0 where

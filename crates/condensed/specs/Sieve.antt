@@ -3,8 +3,8 @@ use Rattle.std.specs.Prelude.{◌≡◌, ℕ, zero, suc, ◌<◌, ◌≤◌, Lis
 use Rattle.std.proofs.Common.{sym, subst, ◌∙◌, get_or-set_same}
 use native.Mathlib.Omega.{arith}
 use Rattle.std.proofs.Math.ListN.{length-set}
-use Rattle.book.specs.Entries.{no_stamps, raised, least}
-use Rattle.condensed.specs.Filter.{FourWays, Inside, way_at, stamps_at, raised_at, filter_told, filter_raised}
+use Rattle.book.specs.Entries.{no_stamps, later_stamps, earlier_stamps}
+use Rattle.condensed.specs.Filter.{FourWays, AreInside, way_at, stamps_at, raised_at, filter_stamps, filter_raised_to}
 use Rattle.book.specs.declared.entry.Stamps.{Stamps}
 use Rattle.book.specs.Order.{NoEarlier, stamps_same, stamps_chain, raised_first, raised_second, least_reaches}
 use Rattle.book.specs.Order.{least_grows, earlier_bound}
@@ -22,7 +22,7 @@ grown_chain f g h p q way k =
 way_grows :
     (xs : List Stamps) (i : ℕ) (s : Stamps) (k : ℕ)
     → NoEarlier (slice_index_or xs k no_stamps)
-    (slice_index_or (slice_set xs i (raised (slice_index_or xs i no_stamps) s)) k no_stamps)
+    (slice_index_or (slice_set xs i (later_stamps (slice_index_or xs i no_stamps) s)) k no_stamps)
 way_grows [] i s k = stamps_same no_stamps
 way_grows (x ∷ xs) zero s zero = raised_first x s
 way_grows (x ∷ xs) zero s (suc k) = stamps_same (slice_index_or xs k no_stamps)
@@ -38,7 +38,7 @@ at_grows (x ∷ xs) (suc way) i s (suc other) k = at_grows xs way i s other k
 
 module _ (f : List (List Stamps)) (ways : FourWays f) (way i : ℕ) (lt : way < 4) (s : Stamps) where
   abbrev raised_way : List Stamps
-  raised_way = slice_set (way_at f way) i (raised (stamps_at f way i) s)
+  raised_way = slice_set (way_at f way) i (later_stamps (stamps_at f way i) s)
 
   at_ways : FourWays (raised_at f way i s)
   at_ways =
@@ -56,7 +56,7 @@ module _ (f : List (List Stamps)) (ways : FourWays f) (way i : ℕ) (lt : way < 
       subst (λ xs. NoEarlier s (slice_index_or xs i no_stamps))
       (sym (get_or-set_same f way raised_way [] (omega arith)))
       (subst (NoEarlier s)
-      (sym (get_or-set_same (way_at f way) i (raised (stamps_at f way i) s) no_stamps (omega arith)))
+      (sym (get_or-set_same (way_at f way) i (later_stamps (stamps_at f way i) s) no_stamps (omega arith)))
       (raised_second (stamps_at f way i) s))
 
 module _ (f : List (List Stamps)) (four : List ℕ) (s : Stamps) where
@@ -69,35 +69,35 @@ module _ (f : List (List Stamps)) (four : List ℕ) (s : Stamps) where
   abbrev three : List (List Stamps)
   three = raised_at two 2 (slice_index four 2) s
 
-  pub raised_ways : FourWays f → FourWays (filter_raised f four s)
-  unfolding filter_raised
+  pub raised_ways : FourWays f → FourWays (filter_raised_to f four s)
+  unfolding filter_raised_to
   raised_ways ways =
       at_ways three
       (at_ways two (at_ways one (at_ways f ways 0 _ (omega arith) s) 1 _ (omega arith) s) 2 _ (omega arith) s)
       3 _ (omega arith) s
 
-  from_one : Grown one (filter_raised f four s)
-  unfolding filter_raised
+  from_one : Grown one (filter_raised_to f four s)
+  unfolding filter_raised_to
   from_one =
-      grown_chain one two (filter_raised f four s) (at_grows one 1 _ s)
-      (grown_chain two three (filter_raised f four s) (at_grows two 2 _ s) (at_grows three 3 _ s))
+      grown_chain one two (filter_raised_to f four s) (at_grows one 1 _ s)
+      (grown_chain two three (filter_raised_to f four s) (at_grows two 2 _ s) (at_grows three 3 _ s))
 
-  from_two : Grown two (filter_raised f four s)
-  unfolding filter_raised
-  from_two = grown_chain two three (filter_raised f four s) (at_grows two 2 _ s) (at_grows three 3 _ s)
+  from_two : Grown two (filter_raised_to f four s)
+  unfolding filter_raised_to
+  from_two = grown_chain two three (filter_raised_to f four s) (at_grows two 2 _ s) (at_grows three 3 _ s)
 
-  from_three : Grown three (filter_raised f four s)
-  unfolding filter_raised
+  from_three : Grown three (filter_raised_to f four s)
+  unfolding filter_raised_to
   from_three = at_grows three 3 _ s
 
-  pub raised_grows : Grown f (filter_raised f four s)
-  raised_grows = grown_chain f one (filter_raised f four s) (at_grows f 0 (slice_index four 0) s) from_one
+  pub raised_grows : Grown f (filter_raised_to f four s)
+  raised_grows = grown_chain f one (filter_raised_to f four s) (at_grows f 0 (slice_index four 0) s) from_one
 
   -- What holds of every entry, and of every entry raised to the stamps, holds of every entry after.
   pub raised_each :
-      (P : Stamps → Type 0) → ((x : Stamps) → P x → P (raised x s)) → ((way k : ℕ) → P (stamps_at f way k))
-      → (way k : ℕ) → P (stamps_at (filter_raised f four s) way k)
-  unfolding filter_raised
+      (P : Stamps → Type 0) → ((x : Stamps) → P x → P (later_stamps x s)) → ((way k : ℕ) → P (stamps_at f way k))
+      → (way k : ℕ) → P (stamps_at (filter_raised_to f four s) way k)
+  unfolding filter_raised_to
   raised_each P up all = step three 3 _ (step two 2 _ (step one 1 _ (step f 0 _ all)))
     where
       step :
@@ -105,17 +105,17 @@ module _ (f : List (List Stamps)) (four : List ℕ) (s : Stamps) where
           → P (stamps_at (raised_at g way i s) other k)
       step g way i h other k =
           set_any (λ xs. P (slice_index_or xs k no_stamps)) g way other _ []
-          (set_any P (way_at g way) i k (raised (stamps_at g way i) s) no_stamps (up (stamps_at g way i) (h way i))
+          (set_any P (way_at g way) i k (later_stamps (stamps_at g way i) s) no_stamps (up (stamps_at g way i) (h way i))
           (h way k))
           (h other k)
 
-  pub raised_reaches : FourWays f → Inside four → NoEarlier s (filter_told (filter_raised f four s) four)
-  unfolding filter_told filter_raised
+  pub raised_reaches : FourWays f → AreInside four → NoEarlier s (filter_stamps (filter_raised_to f four s) four)
+  unfolding filter_stamps filter_raised_to
   raised_reaches ways inside =
       let w1 : FourWays one = at_ways f ways 0 _ (omega arith) s in
       let w2 : FourWays two = at_ways one w1 1 _ (omega arith) s in
       let w3 : FourWays three = at_ways two w2 2 _ (omega arith) s in
-      let end : List (List Stamps) = filter_raised f four s in
+      let end : List (List Stamps) = filter_raised_to f four s in
       least_reaches s _ _
       (least_reaches s _ _
       (stamps_chain s (stamps_at one 0 (slice_index four 0)) (stamps_at end 0 (slice_index four 0))
@@ -129,23 +129,23 @@ module _ (f : List (List Stamps)) (four : List ℕ) (s : Stamps) where
       (at_reaches three w3 3 (slice_index four 3) (omega arith) s inside.in_3))
 
 pub told_grows :
-    (f g : List (List Stamps)) (four : List ℕ) → Grown f g → NoEarlier (filter_told f four) (filter_told g four)
-unfolding filter_told
+    (f g : List (List Stamps)) (four : List ℕ) → Grown f g → NoEarlier (filter_stamps f four) (filter_stamps g four)
+unfolding filter_stamps
 told_grows f g four up =
     let a : ℕ = slice_index four 0 in
     let b : ℕ = slice_index four 1 in
     let c : ℕ = slice_index four 2 in
     let d : ℕ = slice_index four 3 in
-    least_grows (least (stamps_at f 0 a) (stamps_at f 1 b)) (least (stamps_at f 2 c) (stamps_at f 3 d))
-    (least (stamps_at g 0 a) (stamps_at g 1 b)) (least (stamps_at g 2 c) (stamps_at g 3 d))
+    least_grows (earlier_stamps (stamps_at f 0 a) (stamps_at f 1 b)) (earlier_stamps (stamps_at f 2 c) (stamps_at f 3 d))
+    (earlier_stamps (stamps_at g 0 a) (stamps_at g 1 b)) (earlier_stamps (stamps_at g 2 c) (stamps_at g 3 d))
     (least_grows (stamps_at f 0 a) (stamps_at f 1 b) (stamps_at g 0 a) (stamps_at g 1 b) (up 0 a) (up 1 b))
     (least_grows (stamps_at f 2 c) (stamps_at f 3 d) (stamps_at g 2 c) (stamps_at g 3 d) (up 2 c) (up 3 d))
 
 module _ (f : List (List Stamps)) (four : List ℕ) (m : ℕ) where
-  pub told_written : ((way k : ℕ) → (stamps_at f way k).write ≤ m) → (filter_told f four).write ≤ m
-  unfolding filter_told
+  pub told_written : ((way k : ℕ) → (stamps_at f way k).write ≤ m) → (filter_stamps f four).write ≤ m
+  unfolding filter_stamps
   told_written all = let h = all 0 (slice_index four 0) in omega arith
 
-  pub told_read : ((way k : ℕ) → (stamps_at f way k).read.0 ≤ m) → (filter_told f four).read.0 ≤ m
-  unfolding filter_told
+  pub told_read : ((way k : ℕ) → (stamps_at f way k).read.0 ≤ m) → (filter_stamps f four).read.0 ≤ m
+  unfolding filter_stamps
   told_read all = earlier_bound _ _ m (earlier_bound _ _ m (all 0 (slice_index four 0)))

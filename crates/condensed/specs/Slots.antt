@@ -6,7 +6,7 @@ use Rattle.std.specs.List.{position_or_len}
 use Rattle.std.proofs.lemmas.List.Sums.{passes_at_first, fails_before_first, position_or_len_is}
 use Rattle.std.proofs.lemmas.List.Folds.{position_or_len-set}
 use Rattle.std.proofs.lemmas.List.{get_or_past}
-use Rattle.condensed.specs.Condensed.{empty, is_line, same_line, line_in, holds, slot_of, Apart}
+use Rattle.condensed.specs.Condensed.{empty_slot, is_line, same_line, slot_line, slot_holds, slot_of, HoldDistinctLines}
 use Rattle.condensed.specs.declared.slot.Slot.{Slot}
 
 pub line_is : (o : Option ℕ) (n : ℕ) → is_line o n ≡ true → o ≡ Some n
@@ -23,73 +23,73 @@ same_back (Some m) n h = eq-eqb m n (sym (eqb-true n m h))
 
 -- A line is found in a slot that holds it, or no slot holds it.
 abbrev pub Spot : List Slot → ℕ → Option ℕ → Type 0
-Spot slots n None = (k : ℕ) → holds (slice_index_or slots k empty) n ≡ false
-Spot slots n (Some i) = (i < length slots) × (holds (slice_index_or slots i empty) n ≡ true)
+Spot slots n None = (k : ℕ) → slot_holds (slice_index_or slots k empty_slot) n ≡ false
+Spot slots n (Some i) = (i < length slots) × (slot_holds (slice_index_or slots i empty_slot) n ≡ true)
 
 pub spot : (slots : List Slot) (n : ℕ) → Spot slots n (slot_of slots n)
 unfolding slot_of
 spot slots n = by (nat_lt (position_or_len test slots) (length slots)) refl
   where
     test : Slot → Bool
-    test slot = holds slot n
+    test slot = slot_holds slot n
 
     by :
         (b : Bool) → nat_lt (position_or_len test slots) (length slots) ≡ b
         → Spot slots n (cond b (Some (position_or_len test slots)) None)
     by true e =
         let lt = ltb-true (position_or_len test slots) (length slots) e in
-        (lt, passes_at_first test slots empty lt)
+        (lt, passes_at_first test slots empty_slot lt)
     by false e =
         let past = ltb-false (position_or_len test slots) (length slots) e in λ k.
-        ⊎_elim (λ lt. fails_before_first test slots k empty (omega arith))
-        (λ out. ap test (get_or_past slots k empty out))
+        ⊎_elim (λ lt. fails_before_first test slots k empty_slot (omega arith))
+        (λ out. ap test (get_or_past slots k empty_slot out))
         (cases_lt k (length slots))
 
 -- A line is in the first of the slots that hold it.
 pub first_found :
-    (slots : List Slot) (n i : ℕ) → i < length slots → holds (slice_index_or slots i empty) n ≡ true
-    → ((k : ℕ) → k < i → holds (slice_index_or slots k empty) n ≡ false) → slot_of slots n ≡ Some i
+    (slots : List Slot) (n i : ℕ) → i < length slots → slot_holds (slice_index_or slots i empty_slot) n ≡ true
+    → ((k : ℕ) → k < i → slot_holds (slice_index_or slots k empty_slot) n ≡ false) → slot_of slots n ≡ Some i
 unfolding slot_of
 first_found slots n i lt h before =
-    let test : Slot → Bool = λ slot. holds slot n in
-    let is = position_or_len_is test slots i empty (omega arith) before (λ _. h) in
+    let test : Slot → Bool = λ slot. slot_holds slot n in
+    let is = position_or_len_is test slots i empty_slot (omega arith) before (λ _. h) in
     cond-true (nat_lt (position_or_len test slots) (length slots)) (Some (position_or_len test slots)) None
     (lt-ltb (position_or_len test slots) (length slots) (omega arith)) ∙ ap Some is
 
 pub none_found :
-    (slots : List Slot) (n : ℕ) → ((k : ℕ) → k < length slots → holds (slice_index_or slots k empty) n ≡ false)
+    (slots : List Slot) (n : ℕ) → ((k : ℕ) → k < length slots → slot_holds (slice_index_or slots k empty_slot) n ≡ false)
     → slot_of slots n ≡ None
 none_found slots n h = by (slot_of slots n) (spot slots n)
   where
     by : (o : Option ℕ) → Spot slots n o → o ≡ None
     by None s = refl
-    by (Some i) s = absurd (both_ways (holds (slice_index_or slots i empty) n) (h i s.0) s.1)
+    by (Some i) s = absurd (both_ways (slot_holds (slice_index_or slots i empty_slot) n) (h i s.0) s.1)
 
 -- Where no line is in two slots, a line is found in whichever slot holds it.
 pub found_in :
-    (slots : List Slot) → Apart slots → (n i : ℕ) → holds (slice_index_or slots i empty) n ≡ true
+    (slots : List Slot) → HoldDistinctLines slots → (n i : ℕ) → slot_holds (slice_index_or slots i empty_slot) n ≡ true
     → slot_of slots n ≡ Some i
 found_in slots apart n i h = by (slot_of slots n) (spot slots n)
   where
     by : (o : Option ℕ) → Spot slots n o → o ≡ Some i
-    by None s = absurd (both_ways (holds (slice_index_or slots i empty) n) (s i) h)
+    by None s = absurd (both_ways (slot_holds (slice_index_or slots i empty_slot) n) (s i) h)
     by (Some j) s =
         ap Some
-        (apart j i (same_from (line_in (get_or slots j empty)) (line_in (get_or slots i empty)) n s.1 h))
+        (apart j i (same_from (slot_line (get_or slots j empty_slot)) (slot_line (get_or slots i empty_slot)) n s.1 h))
 
 -- A slot that keeps its line leaves every line where it was.
 pub slot_same :
-    (slots : List Slot) (i : ℕ) (x : Slot) → line_in x ≡ line_in (get_or slots i empty) → (n : ℕ)
+    (slots : List Slot) (i : ℕ) (x : Slot) → slot_line x ≡ slot_line (get_or slots i empty_slot) → (n : ℕ)
     → slot_of (slice_set slots i x) n ≡ slot_of slots n
 unfolding slot_of
 slot_same slots i x e n =
-    let same = position_or_len-set (λ slot. holds slot n) slots i x empty (ap (λ l. is_line l n) e) in
+    let same = position_or_len-set (λ slot. slot_holds slot n) slots i x empty_slot (ap (λ l. is_line l n) e) in
     let long = length-set slots i x in
     simp (same, long)
 
 pub line_same :
-    (slots : List Slot) (i : ℕ) (x : Slot) → line_in x ≡ line_in (get_or slots i empty)
-    → (k : ℕ) → (line_in (get_or (slice_set slots i x) k empty)) ≡ (line_in (get_or slots k empty))
+    (slots : List Slot) (i : ℕ) (x : Slot) → slot_line x ≡ slot_line (get_or slots i empty_slot)
+    → (k : ℕ) → (slot_line (get_or (slice_set slots i x) k empty_slot)) ≡ (slot_line (get_or slots k empty_slot))
 line_same [] i x e k = refl
 line_same (y ∷ ys) zero x e zero = e
 line_same (y ∷ ys) zero x e (suc k) = refl

@@ -2,12 +2,12 @@
 ghost use Rattle.std.specs.Prelude.{◌≡◌, ◌<◌, max, is_some, Some, None};
 ghost use Rattle.std.specs.Option.{option_map};
 ghost use Rattle.protocol.specs.Limits.{line_limit};
-ghost use Rattle.book.specs.Meaning.{New};
-ghost use Rattle.book.specs.Earliest.{Earliest};
-ghost use Rattle.book.specs.Exact.{FitsBy};
-ghost use Rattle.condensed.specs.Condensed.{condensed, condensed_new, slot_of, place_in, place_for, told_by, told};
-ghost use Rattle.condensed.specs.Condensed.{Bounded, vacated, with_slot, note_in};
-ghost use Rattle.condensed.specs.Pages.{place_at, condensed_page, sound_page};
+ghost use Rattle.book.specs.Meaning.{IsNew};
+ghost use Rattle.book.specs.Earliest.{IsEarliest};
+ghost use Rattle.book.specs.Exact.{FitsWithin};
+ghost use Rattle.condensed.specs.Condensed.{condensed, condensed_new, slot_of, place_from, place_for, entry_by_slot, line_entry};
+ghost use Rattle.condensed.specs.Condensed.{IsBounded, after_eviction, with_slot, after_note};
+ghost use Rattle.condensed.specs.CondensedState.{slot_number, condensed_state, condensed_is_sound};
 ghost use Rattle.condensed.specs.Shared.{SharedMark};
 ghost use Rattle.condensed.specs.Seventeenth.{NoSlotForASeventeenth};
 ghost use Rattle.condensed.specs.CondensedKeeps.{condensed_keeps};
@@ -15,9 +15,7 @@ ghost use Rattle.condensed.specs.CondensedKeeps.{condensed_keeps};
 use crate::filter::{Filter, indices};
 use crate::slot::{Occupant, Place, Slot, any_free, position_of};
 use crate::state::CondensedBook;
-use book::entry::{Entry, Stamps, can_be};
-use book::record::{Book, Told};
-use book::refused::Refused;
+use book::{Book, Entry, LineState, Refused, Stamps, can_be};
 use choice::choose;
 use protocol::limits::{LINES, STORES};
 
@@ -25,9 +23,9 @@ impl CondensedBook {
     /// A book that tells nothing yet. Whatever calls it gets, it never tells an earlier stamp than the exact book
     /// would.
     pub fn new() -> CondensedBook
-        ensures value { condensed_page result ≡ condensed_new }
-        ensures new { New condensed (condensed_page result) }
-        ensures never_earlier { Earliest condensed }
+        ensures value { condensed_state result ≡ condensed_new }
+        ensures new { IsNew condensed (condensed_state result) }
+        ensures never_earlier { IsEarliest condensed }
         ensures full { NoSlotForASeventeenth }
         ensures example { SharedMark }
     {
@@ -41,7 +39,7 @@ impl CondensedBook {
 
     /// The slot that the line is in.
     fn slot_of(&self, line: u32) -> Option<Place>
-        ensures { option_map place_at result ≡ slot_of self.now.slots line }
+        ensures { option_map slot_number result ≡ slot_of self.now.slots line }
     {
         let at = position_of(&self.slots, line)?;
         Some(Place { at })
@@ -49,7 +47,7 @@ impl CondensedBook {
 
     /// The slot that a line is in, or else the one to take for it.
     fn place_in(&self, inside: Option<Place>) -> Option<Place>
-        ensures { option_map place_at result ≡ place_in self.now.slots (option_map place_at inside) }
+        ensures { option_map slot_number result ≡ place_from self.now.slots (option_map slot_number inside) }
     {
         if inside.is_some() {
             return inside;
@@ -60,15 +58,15 @@ impl CondensedBook {
 
     /// Whether there is a slot for a line, by the slot that it is in: none is chosen for it yet.
     fn has_room(&self, inside: Option<Place>) -> bool
-        ensures { result ≡ is_some (place_in self.now.slots (option_map place_at inside)) }
+        ensures { result ≡ is_some (place_from self.now.slots (option_map slot_number inside)) }
     {
         inside.is_some() || any_free(&self.slots)
     }
 
     /// What the book tells of a line, from the slot that it is in or else from the filter.
-    fn told_in(&self, line: u32, inside: Option<Place>) -> Entry
-        ensures value { result ≡ told_by (condensed_page self.now) line (option_map place_at inside) }
-        ensures bound { Bounded result.stamps self.now.latest }
+    fn entry_by_slot(&self, line: u32, inside: Option<Place>) -> Entry
+        ensures value { result ≡ entry_by_slot (condensed_state self.now) line (option_map slot_number inside) }
+        ensures bound { IsBounded result.stamps self.now.latest }
     {
         if line >= LINES {
             return Entry::UNTOUCHED;
@@ -76,26 +74,26 @@ impl CondensedBook {
         match inside {
             Some(place) => self.slots[place.at].entry(),
             None => Entry {
-                stamps: self.filter.told(indices(line)),
+                stamps: self.filter.stamps(indices(line)),
                 ..Entry::UNTOUCHED
             },
         }
     }
 
     /// What the book tells of the line.
-    fn at(&self, line: u32) -> Entry
-        ensures { result ≡ told (condensed_page self.now) line }
+    fn line_entry(&self, line: u32) -> Entry
+        ensures { result ≡ line_entry (condensed_state self.now) line }
     {
-        self.told_in(line, self.slot_of(line))
+        self.entry_by_slot(line, self.slot_of(line))
     }
 
     /// Writes a line and its entry into the slot that is for it, and raises the latest stamp where it is earlier.
     fn put(&mut self, line: u32, place: Place, entry: Entry, stamp: u32)
         requires its_place { place_for self.old.slots line ≡ Some place.at }
         requires numbered { line < line_limit }
-        requires fits { FitsBy (max self.old.latest stamp) entry }
-        ensures { condensed_page self.new
-            ≡ with_slot (condensed_page self.old) line place.at entry stamp }
+        requires fits { FitsWithin (max self.old.latest stamp) entry }
+        ensures { condensed_state self.new
+            ≡ with_slot (condensed_state self.old) line place.at entry stamp }
     {
         self.slots[place.at] = Slot {
             occupant: Some(Occupant { line, entry }),
@@ -105,8 +103,8 @@ impl CondensedBook {
 
     /// Leaves a slot to a line: another line that is in it raises its entries of the filter.
     fn vacate(&mut self, line: u32, place: Place)
-        ensures after { condensed_page self.new
-            ≡ vacated (condensed_page self.old) line place.at }
+        ensures after { condensed_state self.new
+            ≡ after_eviction (condensed_state self.old) line place.at }
         ensures slots { self.new.slots ≡ self.old.slots }
         ensures latest { self.new.latest ≡ self.old.latest }
     {
@@ -115,8 +113,8 @@ impl CondensedBook {
 
     /// Notes a read of a line that is in no slot.
     fn note_outside(&mut self, line: u32, time: (u32, u32))
-        ensures { condensed_page self.new
-            ≡ note_in (condensed_page self.old) line time None }
+        ensures { condensed_state self.new
+            ≡ after_note (condensed_state self.old) line time None }
     {
         let read = Stamps {
             read: time,
@@ -130,41 +128,41 @@ impl CondensedBook {
 impl Book for CondensedBook {
     ghost kind = { condensed };
 
-    ghost model = { condensed_page };
+    ghost model = { condensed_state };
 
     ghost keeps = { condensed_keeps };
 
-    ghost good = { sound_page };
+    ghost good = { condensed_is_sound };
 
     // The questions read as the exact book's, over another look-up: the trait would have to know of look-ups.
     fn write_stamp(&self, line: u32) -> u32 {
-        self.at(line).stamps.write
+        self.line_entry(line).stamps.write
     }
 
     fn read_mark(&self, line: u32) -> (u32, u32) {
-        self.at(line).stamps.read
+        self.line_entry(line).stamps.read
     }
 
     fn stores(&self, line: u32) -> u32 {
-        self.at(line).stores()
+        self.line_entry(line).stores()
     }
 
     fn owner(&self, line: u32) -> Option<u32> {
-        self.at(line).owner()
+        self.line_entry(line).owner()
     }
 
     fn has_slot(&self, line: u32) -> bool {
         line < LINES && self.has_room(self.slot_of(line))
     }
 
-    fn told(&self, line: u32) -> Told {
+    fn line_state(&self, line: u32) -> LineState {
         let inside = self.slot_of(line);
-        let entry = self.told_in(line, inside);
-        Told {
-            written: entry.stamps.write,
-            read: entry.stamps.read,
+        let entry = self.entry_by_slot(line, inside);
+        LineState {
+            write_stamp: entry.stamps.write,
+            read_mark: entry.stamps.read,
             owner: entry.owner(),
-            slot: line < LINES && self.has_room(inside),
+            has_slot: line < LINES && self.has_room(inside),
         }
     }
 
@@ -193,13 +191,13 @@ impl Book for CondensedBook {
             return Err(Refused);
         }
         let inside = self.slot_of(line);
-        let told = self.told_in(line, inside);
-        if told.stores() > 0 {
+        let entry = self.entry_by_slot(line, inside);
+        if entry.stores() > 0 {
             return Err(Refused);
         }
         let place = self.place_in(inside).ok_or(Refused)?;
         self.vacate(line, place);
-        self.put(line, place, told.held_by(time.1, time.0 + 1), time.0 + 1);
+        self.put(line, place, entry.held_by(time.1, time.0 + 1), time.0 + 1);
         Ok(())
     }
 

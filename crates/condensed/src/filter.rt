@@ -1,12 +1,12 @@
 //! Stamps of many lines in few entries.
 ghost use Rattle.std.specs.Prelude.{◌≡◌, ◌<◌, true, [], ◌∷◌, replicate};
 ghost use Rattle.book.specs.Entries.{no_stamps};
-ghost use Rattle.condensed.specs.Condensed.{turned_out};
-ghost use Rattle.condensed.specs.Filter.{index_by, indices_of, small, FourWays, Inside};
-ghost use Rattle.condensed.specs.Filter.{filter_told, filter_raised, raised_at};
+ghost use Rattle.condensed.specs.Condensed.{filter_after_eviction};
+ghost use Rattle.condensed.specs.Filter.{index_by, indices_of, all_below_64, FourWays, AreInside};
+ghost use Rattle.condensed.specs.Filter.{filter_stamps, filter_raised_to, raised_at};
 
 use crate::slot::Slot;
-use book::entry::Stamps;
+use book::Stamps;
 
 /// Four ways of 64 entries. Each line has an entry in each way, and shares it with other lines.
 #[derive(Drop)]
@@ -19,7 +19,7 @@ pub struct Filter {
 // A form that is fixed (docs/DECISIONS.md): one array by value.
 pub fn indices(line: u32) -> [usize; 4]
     ensures value { result ≡ indices_of line }
-    ensures inside { Inside result }
+    ensures inside { AreInside result }
     ensures example { indices_of 5 ≡ 5 ∷ 51 ∷ 16 ∷ 16 ∷ [] }
 {
     [
@@ -33,7 +33,7 @@ pub fn indices(line: u32) -> [usize; 4]
 /// The exclusive or of a way's numbers for the bits set in the line's number, lowest first.
 fn index(numbers: &[usize; 12], line: u32) -> usize
     ensures value { result ≡ index_by numbers.now line }
-    ensures inside { small numbers.now ≡ true → result < 64 }
+    ensures inside { all_below_64 numbers.now ≡ true → result < 64 }
 {
     let mut index = 0;
     for (bit, number) in numbers.iter().enumerate() {
@@ -54,10 +54,10 @@ impl Filter {
     }
 
     /// The smallest write stamp and the earliest read mark of four entries.
-    #[tactic(auto, unfolding(crate::specs::Filter::filter_told))]
-    pub(crate) fn told(&self, four: [usize; 4]) -> Stamps
-        requires { Inside four }
-        ensures { result ≡ filter_told self.now.ways four }
+    #[tactic(auto, unfolding(crate::specs::Filter::filter_stamps))]
+    pub(crate) fn stamps(&self, four: [usize; 4]) -> Stamps
+        requires { AreInside four }
+        ensures { result ≡ filter_stamps self.now.ways four }
     {
         let [a, b, c, d] = four;
         let low = self.ways[0][a].least(self.ways[1][b]);
@@ -66,10 +66,10 @@ impl Filter {
     }
 
     /// Raises four entries to stamps, where they are earlier.
-    #[tactic(auto, unfolding(crate::specs::Filter::filter_raised))]
+    #[tactic(auto, unfolding(crate::specs::Filter::filter_raised_to))]
     pub(crate) fn raise(&mut self, four: [usize; 4], stamps: Stamps)
-        requires { Inside four }
-        ensures { self.new.ways ≡ filter_raised self.old.ways four stamps }
+        requires { AreInside four }
+        ensures { self.new.ways ≡ filter_raised_to self.old.ways four stamps }
     {
         let [a, b, c, d] = four;
         self.raise_at(0, a, stamps);
@@ -80,7 +80,7 @@ impl Filter {
 
     /// The line in a slot, if it is another than the one that comes in, raises its entries to its stamps.
     pub(crate) fn turn_out(&mut self, slot: Slot, line: u32)
-        ensures { self.new.ways ≡ turned_out self.old.ways slot line }
+        ensures { self.new.ways ≡ filter_after_eviction self.old.ways slot line }
     {
         if let Some(out) = slot.occupant
             && out.line != line

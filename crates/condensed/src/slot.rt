@@ -1,8 +1,8 @@
 //! A slot of the condensed book.
 ghost use Rattle.std.specs.Prelude.{◌≡◌, ◌<◌, length, is_some, IfSome};
-ghost use Rattle.condensed.specs.Condensed.{any_free, holds, entry_in, slot_of, slot_key};
+ghost use Rattle.condensed.specs.Condensed.{any_free, slot_holds, slot_entry, slot_of, slot_key};
 
-use book::entry::Entry;
+use book::Entry;
 use choice::Ranked;
 
 /// A line in a slot, and what is told of it.
@@ -31,7 +31,7 @@ impl Slot {
 
     /// Whether the slot holds the line.
     pub fn holds(&self, line: u32) -> bool
-        ensures { result ≡ holds self.now line }
+        ensures { result ≡ slot_holds self.now line }
     {
         self.occupant.is_some_and(|occupant| occupant.line == line)
     }
@@ -46,7 +46,7 @@ impl Slot {
 
     /// What is told of the line in the slot; without one, as of a line that no call named yet.
     pub fn entry(self) -> Entry
-        ensures { result ≡ entry_in self }
+        ensures { result ≡ slot_entry self }
     {
         self.occupant
             .map_or(Entry::UNTOUCHED, |occupant| occupant.entry)

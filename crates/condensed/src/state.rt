@@ -1,5 +1,5 @@
 //! The condensed book: sixteen slots, and a filter for the lines that are in none.
-ghost use Rattle.condensed.specs.Condensed.{Sound, page_of};
+ghost use Rattle.condensed.specs.Condensed.{IsSound, condensed_of};
 
 use crate::filter::Filter;
 use crate::slot::Slot;
@@ -10,5 +10,5 @@ pub struct CondensedBook {
     pub(crate) slots: [Slot; 16],
     pub(crate) filter: Filter,
     pub(crate) latest: u32,
-    ghost sound: { Sound (page_of slots filter.ways latest) },
+    ghost sound: { IsSound (condensed_of slots filter.ways latest) },
 }

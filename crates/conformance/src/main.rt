@@ -2,7 +2,7 @@
 //! why ours is as it is.
 #![tactic(auto)]
 
-use report::report::make_report;
+use report::make_report;
 use std::fs;
 
 fn main(rt: HostRuntime) -> anyhow::Result<()> {

@@ -2,11 +2,10 @@
 //! calls files in which all else stands.
 #![tactic(auto)]
 
-use explain::explain::explain;
-use protocol::answer::Cause;
-use protocol::fault::Refusal;
+use explain::answer_words::{cause_words, refusal_words};
+use explain::explain;
+use protocol::{Cause, Refusal};
 use std::fs;
-use wording::answers::{cause_words, refusal_words};
 
 /// The causes, in the order of their numbers.
 const CAUSES: [Cause; 4] = [

@@ -11,7 +11,7 @@ use Rattle.machine.specs.Running.{run_of}
 use Rattle.calls.specs.declared.file.BookKind.{BookKind}
 use Rattle.calls.specs.declared.file.BookKind.TheVariants.{Exact, Condensed}
 use Rattle.calls.specs.declared.file.CallsFile.{CallsFile}
-use Rattle.listing.specs.Listing.{run_text, book_text, said_text}
+use Rattle.listing.specs.Listing.{run_text, book_text, calls_file_text}
 use Rattle.explain.specs.Notes.{without_notes}
 
 -- The listing of a run over some words, from a state of a book.
@@ -42,7 +42,7 @@ module _ {A E : Type 0} (r : Result (String A) E) (file : CallsFile) where
   listed_by :
       (kind : BookKind) → file.book ≡ kind
       → IfOk r (λ t. without_notes (string_bytes t) ≡ book_text kind stamps values calls file.fault)
-      → IfOk r (λ t. without_notes (string_bytes t) ≡ said_text file)
+      → IfOk r (λ t. without_notes (string_bytes t) ≡ calls_file_text file)
   listed_by kind is h =
       subst (λ b. IfOk r (λ t. without_notes (string_bytes t) ≡ book_text b stamps values calls file.fault)) (sym is) h
 
@@ -51,7 +51,7 @@ module _ {A E : Type 0} (r : Result (String A) E) (file : CallsFile) where
       → IfOk r
       (λ t. without_notes (string_bytes t)
       ≡ words_text exact exact_new stamps values calls file.fault (length values))
-      → IfOk r (λ t. without_notes (string_bytes t) ≡ said_text file)
+      → IfOk r (λ t. without_notes (string_bytes t) ≡ calls_file_text file)
   unfolding book_text
   exact_listed is h = listed_by Exact is h
 
@@ -60,6 +60,6 @@ module _ {A E : Type 0} (r : Result (String A) E) (file : CallsFile) where
       → IfOk r
       (λ t. without_notes (string_bytes t)
       ≡ words_text condensed condensed_new stamps values calls file.fault (length values))
-      → IfOk r (λ t. without_notes (string_bytes t) ≡ said_text file)
+      → IfOk r (λ t. without_notes (string_bytes t) ≡ calls_file_text file)
   unfolding book_text
   condensed_listed is h = listed_by Condensed is h

@@ -5,7 +5,7 @@ use Rattle.std.specs.Str.Iter.{LacksByte}
 use Rattle.std.proofs.lemmas.Bool.Decides.{nat_tests}
 use Rattle.std.proofs.lemmas.List.Elements.{All-head, All-tail}
 use Rattle.explain.specs.Notes.{Place, at_start, in_row, in_note, place_after, kept_byte, kept_from, without_notes}
-use Rattle.explain.specs.Notes.{with_feeds, is_note, rows_of, DropsNotes, indented, indented_line}
+use Rattle.explain.specs.Notes.{with_feeds, is_note, lines_without_notes, DropsNotes, indented, indented_line}
 use Rattle.explain.specs.Notes.{IsNote, AddsRow, AddsRows}
 
 -- Of bytes that begin at a place some are kept, and what follows them begins at another.
@@ -94,14 +94,14 @@ one_line_more false line rows = refl
 
 whole_lines :
     (lines : List (List ℕ)) → All (LacksByte 10) lines
-    → Gives at_start (with_feeds lines) (with_feeds (rows_of lines)) at_start
+    → Gives at_start (with_feeds lines) (with_feeds (lines_without_notes lines)) at_start
 whole_lines [] each rest = refl
 whole_lines (line ∷ lines) each rest =
     gives_append at_start at_start at_start (line ++ codes "\n") (with_feeds lines)
-    (cond (is_note line) [] (line ++ codes "\n")) (with_feeds (rows_of lines))
+    (cond (is_note line) [] (line ++ codes "\n")) (with_feeds (lines_without_notes lines))
     (whole_line line (All-head (LacksByte 10) line lines each))
     (whole_lines lines (All-tail (LacksByte 10) line lines each)) rest
-    ∙ ap (λ t. t ++ without_notes rest) (sym (one_line_more (is_note line) line (rows_of lines)))
+    ∙ ap (λ t. t ++ without_notes rest) (sym (one_line_more (is_note line) line (lines_without_notes lines)))
 
 -- The last line may lack its line feed.
 last_line : (last : List ℕ) → LacksByte 10 last → without_notes last ≡ cond (is_note last) [] last
@@ -114,7 +114,7 @@ last_line (byte ∷ line) lacks =
 
 pub drops_notes : DropsNotes
 drops_notes lines last each lacks =
-    whole_lines lines each last ∙ ap (λ t. with_feeds (rows_of lines) ++ t) (last_line last lacks)
+    whole_lines lines each last ∙ ap (λ t. with_feeds (lines_without_notes lines) ++ t) (last_line last lacks)
 
 -- Indented lines are left out.
 blanks : Gives at_start (codes "    ") [] in_note

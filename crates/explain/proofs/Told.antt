@@ -8,8 +8,8 @@ use Rattle.protocol.specs.declared.answer.Answer.{Answer}
 use Rattle.protocol.specs.declared.call.Call.{Call}
 use Rattle.protocol.specs.declared.fault.Fault.{Fault}
 use Rattle.book.specs.Meaning.{Kind}
-use Rattle.rules.specs.Queue.{product}
-use Rattle.rules.specs.Runs.{Event, Run, event_of, goes_on, run}
+use Rattle.rules.specs.Queue.{product_policy}
+use Rattle.rules.specs.Runs.{Event, Run, event_of, run_with_call, run}
 use Rattle.rules.specs.State.{Machine}
 use Rattle.rules.specs.Steps.{step}
 use Rattle.machine.specs.Running.{answers_in}
@@ -25,34 +25,34 @@ module _ {k : Kind} where
   unfoldable pub rows_from : ℕ → Machine k → List Call → Option Fault → ℕ → List ℕ
   rows_from place m [] found limit = end_rows found m.lines limit
   rows_from place m (call ∷ calls) found limit =
-      call_row place call (step (product k) m call).answer
-      ++ rows_from (place + 1) (step (product k) m call).machine calls found limit
+      call_row place call (step (product_policy k) m call).answer
+      ++ rows_from (place + 1) (step (product_policy k) m call).machine calls found limit
 
   -- What calls leave, and what they answer.
   abbrev after : Machine k → List Call → Machine k
   after m [] = m
-  after m (call ∷ calls) = after (step (product k) m call).machine calls
+  after m (call ∷ calls) = after (step (product_policy k) m call).machine calls
 
   abbrev answered : Machine k → List Call → List (Result Answer Fault)
   answered m [] = []
-  answered m (call ∷ calls) = (step (product k) m call).answer ∷ answered (step (product k) m call).machine calls
+  answered m (call ∷ calls) = (step (product_policy k) m call).answer ∷ answered (step (product_policy k) m call).machine calls
 
   run_after :
-      (r : Run k) (calls : List Call) → (fold (goes_on (product k)) r calls).machine ≡ after r.machine calls
-  unfolding goes_on
+      (r : Run k) (calls : List Call) → (fold (run_with_call (product_policy k)) r calls).machine ≡ after r.machine calls
+  unfolding run_with_call
   run_after r [] = refl
-  run_after r (call ∷ calls) = run_after (goes_on (product k) r call) calls
+  run_after r (call ∷ calls) = run_after (run_with_call (product_policy k) r call) calls
 
   run_answered :
       (r : Run k) (calls : List Call)
-      → answers_in (fold (goes_on (product k)) r calls).events ≡ answers_in r.events ++ answered r.machine calls
-  unfolding goes_on
+      → answers_in (fold (run_with_call (product_policy k)) r calls).events ≡ answers_in r.events ++ answered r.machine calls
+  unfolding run_with_call
   run_answered r [] = sym (append-nil _)
   run_answered r (call ∷ calls) =
-      let s = step (product k) r.machine call in
-      run_answered (goes_on (product k) r call) calls
+      let s = step (product_policy k) r.machine call in
+      run_answered (run_with_call (product_policy k) r call) calls
       ∙ ap (λ answers. answers ++ answered s.machine calls)
-      (map_push (λ (e : Event). e.answer) r.events (event_of (product k) r.machine call))
+      (map_push (λ (e : Event). e.answer) r.events (event_of (product_policy k) r.machine call))
       ∙ append_assoc (answers_in r.events) (s.answer ∷ []) (answered s.machine calls)
 
   rows_of_calls :
@@ -62,17 +62,17 @@ module _ {k : Kind} where
   unfolding rows_from
   rows_of_calls place m [] found limit = refl
   rows_of_calls place m (call ∷ calls) found limit =
-      let s = step (product k) m call in
+      let s = step (product_policy k) m call in
       append_assoc (call_row place call s.answer) (call_rows (place + 1) calls (answered s.machine calls))
       (end_rows found (after s.machine calls).lines limit)
       ∙ ap (λ t. call_row place call s.answer ++ t) (rows_of_calls (place + 1) s.machine calls found limit)
 
   pub rows_of_run :
       (m : Machine k) (calls : List Call) (found : Option Fault) (limit : ℕ)
-      → run_text (run (product k) m calls) calls found limit ≡ rows_from 1 m calls found limit
+      → run_text (run (product_policy k) m calls) calls found limit ≡ rows_from 1 m calls found limit
   rows_of_run m calls found limit =
       let start : Run k = record { machine = m; events = [] } in
-      ap (λ answers. call_rows 1 calls answers ++ end_rows found (run (product k) m calls).machine.lines limit)
+      ap (λ answers. call_rows 1 calls answers ++ end_rows found (run (product_policy k) m calls).machine.lines limit)
       (run_answered start calls)
       ∙ ap (λ (n : Machine k). call_rows 1 calls (answered m calls) ++ end_rows found n.lines limit)
       (run_after start calls)
@@ -113,21 +113,21 @@ module _ {k : Kind} where
       (old new whole : List ℕ)
       → Awaits old (rows_from (i + 1) m (drop i calls) found limit) whole
       → i < length calls
-      → m' ≡ (step (product k) m (slice_index_or calls i other)).machine
+      → m' ≡ (step (product_policy k) m (slice_index_or calls i other)).machine
       → AddsRow
-      (call_row (i + 1) (slice_index_or calls i other) (step (product k) m (slice_index_or calls i other)).answer)
+      (call_row (i + 1) (slice_index_or calls i other) (step (product_policy k) m (slice_index_or calls i other)).answer)
       old new
       → Awaits new (rows_from (i + 1 + 1) m' (drop (i + 1) calls) found limit) whole
   unfolding rows_from
   awaits_next m m' calls i other found limit old new whole h more after g =
       let call : Call = slice_index_or calls i other in
-      let rest : List ℕ = rows_from (i + 1 + 1) (step (product k) m call).machine (drop (i + 1) calls) found limit in
-      let row : List ℕ = call_row (i + 1) call (step (product k) m call).answer in
+      let rest : List ℕ = rows_from (i + 1 + 1) (step (product_policy k) m call).machine (drop (i + 1) calls) found limit in
+      let row : List ℕ = call_row (i + 1) call (step (product_policy k) m call).answer in
       let before : Awaits old (row ++ rest) whole =
       subst (λ cs. Awaits old (rows_from (i + 1) m cs found limit) whole) (one_call_more calls i other more) h in
       subst (λ n. Awaits new (rows_from (i + 1 + 1) n (drop (i + 1) calls) found limit) whole) (sym after)
       (awaits_less row rest whole old new before
-      (row_with_note row old new (call_row_kept (i + 1) call (step (product k) m call).answer) g))
+      (row_with_note row old new (call_row_kept (i + 1) call (step (product_policy k) m call).answer) g))
 
   -- The end is added.
   pub all_told :
@@ -136,14 +136,14 @@ module _ {k : Kind} where
       → length calls ≤ i
       → Awaits text (rows_from (i + 1) m (drop i calls) found limit) (rows_from 1 first calls found limit)
       → IfOk r (λ t. AddsRows (end_rows found m.lines limit) text (string_bytes t))
-      → IfOk r (λ t. without_notes (string_bytes t) ≡ run_text (run (product k) first calls) calls found limit)
+      → IfOk r (λ t. without_notes (string_bytes t) ≡ run_text (run (product_policy k) first calls) calls found limit)
   unfolding rows_from
   all_told r first m calls i found limit text over h g =
       let whole : List ℕ = rows_from 1 first calls found limit in
       let before : Awaits text (end_rows found m.lines limit) whole =
       subst (λ cs. Awaits text (rows_from (i + 1) m cs found limit) whole) (drop_all i calls over) h in
       if_told r (AddsRows (end_rows found m.lines limit) text)
-      (λ t. without_notes t ≡ run_text (run (product k) first calls) calls found limit)
+      (λ t. without_notes t ≡ run_text (run (product_policy k) first calls) calls found limit)
       (λ new more. before.completed new more ∙ sym (rows_of_run first calls found limit)) g
 
 -- A damaged header is all that is told.

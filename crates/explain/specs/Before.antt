@@ -7,11 +7,10 @@ use Rattle.protocol.specs.declared.call.Op.TheVariants.{Begin, Load, Store, Comm
 use Rattle.book.specs.Meaning.{Kind}
 use Rattle.rules.specs.declared.state.Access.TheVariants.{Read, Write}
 use Rattle.rules.specs.declared.state.Request.{Request}
-use Rattle.rules.specs.Access.{Verdict}
+use Rattle.rules.specs.declared.verdict.Verdict.{Verdict}
 use Rattle.rules.specs.Queue.{Policy, request_of}
 use Rattle.rules.specs.State.{Machine, warp_row_of}
 use Rattle.rules.specs.Steps.{verdict_at}
-use Rattle.machine.specs.Verdicts.{verdict_as}
 use Rattle.explain.specs.declared.before.Before.{Before}
 use Rattle.explain.specs.declared.before.LineFacts.{LineFacts}
 use Rattle.explain.specs.Waiting.{all_waiting}
@@ -59,6 +58,6 @@ module _ {k : Kind} where
   -- Facts are what a call of the machine meets.
   pub record IsBefore (policy : Policy k) (m : Machine k) (call : Call) (facts : Before) : Type 0 where
     pub stamp : facts.stamp ≡ (warp_row_of m call.warp).stamp
-    pub verdict : option_map verdict_as facts.verdict ≡ verdict_met policy m call
+    pub verdict : facts.verdict ≡ verdict_met policy m call
     pub line : facts.line ≡ line_met m call
     pub waiting : vec_items facts.waiting ≡ all_waiting m

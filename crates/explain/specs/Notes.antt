@@ -45,15 +45,15 @@ is_note [] = false
 is_note (byte ∷ rest) = byte == 32
 
 -- Some lines without the notes among them.
-abbrev pub rows_of : List (List ℕ) → List (List ℕ)
-rows_of lines = filter (λ line. not (is_note line)) lines
+abbrev pub lines_without_notes : List (List ℕ) → List (List ℕ)
+lines_without_notes lines = filter (λ line. not (is_note line)) lines
 
 -- Of every text, which is some lines, each with its line feed, and what follows the last of them: of the lines the
 -- notes are left out and all others stay, each as it is and in their order; and so with what follows.
 abbrev pub DropsNotes : Type 0
 DropsNotes =
     (lines : List (List ℕ)) (last : List ℕ) → All (LacksByte 10) lines → LacksByte 10 last
-    → without_notes (with_feeds lines ++ last) ≡ with_feeds (rows_of lines) ++ cond (is_note last) [] last
+    → without_notes (with_feeds lines ++ last) ≡ with_feeds (lines_without_notes lines) ++ cond (is_note last) [] last
 
 -- A line as a note has it: indented by four blanks, with its line feed; and some such lines.
 abbrev pub indented_line : List ℕ → List ℕ

@@ -4,11 +4,11 @@ ghost use Rattle.machine.specs.Meaning.{state};
 ghost use Rattle.explain.specs.After.{IsAfter, settled_of, all_settled, wait_of, all_waits};
 
 use crate::waiting::find_waiting;
-use book::record::Book;
-use machine::state::Machine;
-use memory::store::Memory;
-use protocol::answer::Outcome;
-use rules::state::Request;
+use book::Book;
+use machine::Machine;
+use memory::Memory;
+use protocol::Outcome;
+use rules::Request;
 use std::alloc::{AllocError, Global};
 
 /// A request that has come out of the queue, and how.
@@ -43,7 +43,7 @@ pub fn look_after<M: Memory, B: Book>(
     waited: &[Request],
 ) -> Result<After, AllocError>
     ensures { IfOk result
-        (λ facts. IsAfter (state M.Memory.at B.Book.kind B.Book.model machine.now) waited.now facts) }
+        (λ facts. IsAfter (state M.at B.kind B.model machine.now) waited.now facts) }
 {
     Ok(After {
         settled: find_settled(heap, machine, waited)?,
@@ -58,7 +58,7 @@ fn find_settled<M: Memory, B: Book>(
     waited: &[Request],
 ) -> Result<Vec<Settled>, AllocError>
     ensures { IfOk result (λ v. v.items
-        ≡ all_settled (state M.Memory.at B.Book.kind B.Book.model machine.now) waited.now) }
+        ≡ all_settled (state M.at B.kind B.model machine.now) waited.now) }
 {
     waited
         .iter()
@@ -68,7 +68,7 @@ fn find_settled<M: Memory, B: Book>(
 
 // How a request has come out, if it has.
 fn settled_of<M: Memory, B: Book>(machine: &Machine<M, B>, request: Request) -> Option<Settled>
-    ensures { result ≡ settled_of (state M.Memory.at B.Book.kind B.Book.model machine.now) request }
+    ensures { result ≡ settled_of (state M.at B.kind B.model machine.now) request }
 {
     let Request { warp, line, .. } = request;
     let outcome = machine.outcome(warp)?;
@@ -85,7 +85,7 @@ fn find_waits<M: Memory, B: Book>(
     machine: &Machine<M, B>,
 ) -> Result<Vec<Wait>, AllocError>
     ensures { IfOk result (λ v. v.items
-        ≡ all_waits (state M.Memory.at B.Book.kind B.Book.model machine.now)) }
+        ≡ all_waits (state M.at B.kind B.model machine.now)) }
 {
     let waiting = find_waiting(heap, machine)?;
     waiting
@@ -96,7 +96,7 @@ fn find_waits<M: Memory, B: Book>(
 
 // A request that waits, and on whom.
 fn wait_of<M: Memory, B: Book>(machine: &Machine<M, B>, request: Request) -> Wait
-    ensures { result ≡ wait_of (state M.Memory.at B.Book.kind B.Book.model machine.now) request }
+    ensures { result ≡ wait_of (state M.at B.kind B.model machine.now) request }
 {
     let Request { warp, line, .. } = request;
     Wait {

@@ -1,17 +1,14 @@
 //! What a call meets: facts that are read off the machine before the call.
 ghost use Rattle.std.specs.Prelude.{◌≡◌, IfOk};
-ghost use Rattle.std.specs.Option.{option_map};
 ghost use Rattle.machine.specs.Meaning.{state, policy_of};
-ghost use Rattle.machine.specs.Verdicts.{verdict_as};
 ghost use Rattle.explain.specs.Before.{verdict_met, line_met, line_facts, IsBefore};
 
 use crate::waiting::find_waiting;
-use book::record::Book;
-use machine::state::Machine;
-use machine::verdict::Verdict;
-use memory::store::Memory;
-use protocol::call::{Call, Op};
-use rules::state::{Access, Request};
+use book::Book;
+use machine::Machine;
+use memory::Memory;
+use protocol::{Call, Op};
+use rules::{Access, Request, Verdict};
 use std::alloc::{AllocError, Global};
 
 /// A line, as the book tells it.
@@ -47,7 +44,7 @@ pub fn look_before<M: Memory, B: Book>(
     machine: &Machine<M, B>,
     call: Call,
 ) -> Result<Before, AllocError>
-    ensures { IfOk result (λ facts. IsBefore (policy_of B.Book.kind machine.now) (state M.Memory.at B.Book.kind B.Book.model machine.now) call facts) }
+    ensures { IfOk result (λ facts. IsBefore (policy_of B.kind machine.now) (state M.at B.kind B.model machine.now) call facts) }
 {
     Ok(Before {
         stamp: machine.stamp(call.warp),
@@ -59,8 +56,8 @@ pub fn look_before<M: Memory, B: Book>(
 
 // What the access steps say of a load or a store; nothing of other calls.
 fn find_verdict<M: Memory, B: Book>(machine: &Machine<M, B>, call: Call) -> Option<Verdict>
-    ensures { option_map verdict_as result
-        ≡ verdict_met (policy_of B.Book.kind machine.now) (state M.Memory.at B.Book.kind B.Book.model machine.now) call }
+    ensures { result
+        ≡ verdict_met (policy_of B.kind machine.now) (state M.at B.kind B.model machine.now) call }
 {
     let Call { warp, op } = call;
     match op {
@@ -80,7 +77,7 @@ fn find_verdict<M: Memory, B: Book>(machine: &Machine<M, B>, call: Call) -> Opti
 
 // The line that a call names, or else the one that its warp waits for.
 fn find_line<M: Memory, B: Book>(machine: &Machine<M, B>, call: Call) -> Option<LineFacts>
-    ensures { result ≡ line_met (state M.Memory.at B.Book.kind B.Book.model machine.now) call }
+    ensures { result ≡ line_met (state M.at B.kind B.model machine.now) call }
 {
     match call.op {
         Op::Load { line } | Op::Store { line, .. } => Some(line_facts(machine.book(), line)),
@@ -92,7 +89,7 @@ fn find_line<M: Memory, B: Book>(machine: &Machine<M, B>, call: Call) -> Option<
 
 // A line, as a book tells it.
 fn line_facts<B: Book>(book: &B, line: u32) -> LineFacts
-    ensures { result ≡ line_facts B.Book.kind (B.Book.model book.now) line }
+    ensures { result ≡ line_facts B.kind (B.model book.now) line }
 {
     LineFacts {
         line,

@@ -6,12 +6,10 @@ ghost use Rattle.explain.specs.Call.{AreFacts};
 
 use crate::after::{After, look_after};
 use crate::before::{Before, look_before};
-use book::record::Book;
-use machine::state::Machine;
-use memory::store::Memory;
-use protocol::answer::Answer;
-use protocol::call::Call;
-use protocol::fault::Fault;
+use book::Book;
+use machine::Machine;
+use memory::Memory;
+use protocol::{Answer, Call, Fault};
 use std::alloc::{AllocError, Global};
 
 /// A call that has been made: its answer or its refusal, what it met and what it left.
@@ -29,10 +27,10 @@ pub fn make_call<M: Memory, B: Book>(
     machine: &mut Machine<M, B>,
     call: Call,
 ) -> Result<CallFacts, AllocError>
-    ensures after { OnOk result (state M.Memory.at B.Book.kind B.Book.model machine.new
-        ≡ (step (policy_of B.Book.kind machine.old) (state M.Memory.at B.Book.kind B.Book.model machine.old) call).machine) }
+    ensures after { OnOk result (state M.at B.kind B.model machine.new
+        ≡ (step (policy_of B.kind machine.old) (state M.at B.kind B.model machine.old) call).machine) }
     ensures facts { IfOk result
-        (λ facts. AreFacts (policy_of B.Book.kind machine.old) (state M.Memory.at B.Book.kind B.Book.model machine.old) call facts) }
+        (λ facts. AreFacts (policy_of B.kind machine.old) (state M.at B.kind B.model machine.old) call facts) }
 {
     let before = look_before(heap, machine, call)?;
     let reply = machine.call(call);

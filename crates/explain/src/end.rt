@@ -6,11 +6,11 @@ ghost use Rattle.explain.specs.Notes.{AddsRow, AddsRows};
 
 use crate::note::add_note;
 use crate::words::{Damage, LineAtEnd};
-use book::record::Book;
+use book::Book;
 use listing::text::{add_bad_row, add_mem_row};
-use machine::state::Machine;
-use memory::store::Memory;
-use protocol::fault::Fault;
+use machine::Machine;
+use memory::Memory;
+use protocol::Fault;
 use std::alloc::{AllocError, Global};
 
 /// The text with the end: what is wrong with the file, or else the lines below a limit.
@@ -21,7 +21,7 @@ pub(crate) fn add_end<M: Memory, B: Book>(
     found: Option<Fault>,
     limit: u32,
 ) -> Result<String, AllocError>
-    ensures { IfOk result (λ t. AddsRows (end_rows found (M.Memory.at machine.now.memory) limit)
+    ensures { IfOk result (λ t. AddsRows (end_rows found (M.at machine.now.memory) limit)
         (string_bytes text) (string_bytes t)) }
 {
     match found {
@@ -46,7 +46,7 @@ fn add_lines<M: Memory, B: Book>(
     machine: &Machine<M, B>,
     limit: u32,
 ) -> Result<String, AllocError>
-    ensures { IfOk result (λ t. AddsRows (mem_rows (M.Memory.at machine.now.memory) limit)
+    ensures { IfOk result (λ t. AddsRows (mem_rows (M.at machine.now.memory) limit)
         (string_bytes text) (string_bytes t)) }
 {
     let mut all = text;
@@ -63,7 +63,7 @@ fn add_line<M: Memory, B: Book>(
     machine: &Machine<M, B>,
     line: u32,
 ) -> Result<String, AllocError>
-    ensures { IfOk result (λ t. AddsRows (line_row line (M.Memory.at machine.now.memory line))
+    ensures { IfOk result (λ t. AddsRows (line_row line (M.at machine.now.memory line))
         (string_bytes text) (string_bytes t)) }
 {
     match machine.value(line) {

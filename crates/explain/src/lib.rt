@@ -8,11 +8,15 @@
 #![tactic(auto)]
 
 pub mod after;
+pub mod answer_words;
 pub mod before;
 pub mod call;
+pub mod call_words;
 mod end;
-pub mod explain;
+mod explanation;
 pub mod note;
 pub mod row;
 mod waiting;
 pub mod words;
+
+pub use explanation::{explain, explain_script};

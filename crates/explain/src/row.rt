@@ -7,11 +7,11 @@ ghost use Rattle.explain.specs.Notes.{AddsRow};
 
 use crate::call::{CallFacts, make_call};
 use crate::note::add_note;
-use book::record::Book;
+use book::Book;
 use listing::text::add_call_row;
-use machine::state::Machine;
-use memory::store::Memory;
-use protocol::call::Call;
+use machine::Machine;
+use memory::Memory;
+use protocol::Call;
 use std::alloc::{AllocError, Global};
 
 /// Makes a call of the machine, and gives the text with its row and a note: what the call means, what it met and what
@@ -23,11 +23,11 @@ pub fn add_row<M: Memory, B: Book>(
     place: u64,
     call: Call,
 ) -> Result<String, AllocError>
-    ensures after { OnOk result (state M.Memory.at B.Book.kind B.Book.model machine.new
-        ≡ (step (policy_of B.Book.kind machine.old) (state M.Memory.at B.Book.kind B.Book.model machine.old) call).machine) }
+    ensures after { OnOk result (state M.at B.kind B.model machine.new
+        ≡ (step (policy_of B.kind machine.old) (state M.at B.kind B.model machine.old) call).machine) }
     ensures text { IfOk result (λ t. AddsRow
         (call_row place call
-        (step (policy_of B.Book.kind machine.old) (state M.Memory.at B.Book.kind B.Book.model machine.old) call).answer)
+        (step (policy_of B.kind machine.old) (state M.at B.kind B.model machine.old) call).answer)
         (string_bytes text) (string_bytes t)) }
 {
     let facts = make_call(heap, machine, call)?;

@@ -1,13 +1,12 @@
 //! The facts in words.
 use crate::after::{After, Settled, Wait};
+use crate::answer_words::{AnswerInWords, ReplyInWords, refusal_words};
 use crate::before::{Before, LineFacts};
 use crate::call::CallFacts;
-use machine::verdict::Verdict;
-use protocol::answer::Cause;
-use protocol::fault::Fault;
+use crate::call_words::CallInWords;
+use protocol::{Cause, Fault};
+use rules::Verdict;
 use std::fmt;
-use wording::answers::{AnswerInWords, ReplyInWords, refusal_words};
-use wording::calls::CallInWords;
 
 /// A call and its answer, and then, each on lines of its own, what it met and what it left.
 impl fmt::Display for CallFacts {
@@ -39,7 +38,7 @@ fn write_step<W: fmt::Write>(f: &mut fmt::Formatter<W>, before: &Before) -> fmt:
 pub fn step_words(verdict: Verdict) -> &'static str {
     match verdict {
         Verdict::OwnLine => "step 1: its warp has the line",
-        Verdict::Lost { cause, .. } => lost_words(cause),
+        Verdict::Gone { cause, .. } => lost_words(cause),
         Verdict::MustWait => "step 4: another warp has the line, and there is room to wait for it",
         Verdict::GoOn => "step 5: no warp has the line",
     }

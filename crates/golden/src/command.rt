@@ -1,6 +1,6 @@
 //! What the words after the program's name ask for.
 ghost use Rattle.std.specs.Prelude.{◌≡◌, Some};
-ghost use Rattle.golden.specs.Asking.{texts, name_in, calls_in, alone, compared, asked, calls_of, command_of, told, slip_text};
+ghost use Rattle.golden.specs.Commands.{texts, file_name, calls_from, command_alone, compare_command, command_for, calls_of, command_of, result_as, usage_text};
 
 use std::error::Error;
 use std::fmt;
@@ -34,7 +34,7 @@ pub enum UsageError<'a> {
 }
 
 impl fmt::Display for UsageError<'_> {
-    ghost output = { λ error. Some (slip_text error) };
+    ghost output = { λ error. Some (usage_text error) };
 
     fn fmt<W: fmt::Write>(&self, f: &mut fmt::Formatter<W>) -> fmt::Result {
         match *self {
@@ -55,7 +55,7 @@ impl Error for UsageError<'_> {}
 
 /// What the words ask for.
 pub fn read_command(words: &[String]) -> Result<Command<'_>, UsageError<'_>>
-    ensures { told command_of result ≡ asked (texts words.now) }
+    ensures { result_as command_of result ≡ command_for (texts words.now) }
 {
     let Some((first, rest)) = words.split_first() else {
         return Ok(Command::List {
@@ -77,7 +77,7 @@ pub fn read_command(words: &[String]) -> Result<Command<'_>, UsageError<'_>>
 
 // A command that no word may follow.
 fn alone<'a>(rest: &'a [String], command: Command<'a>) -> Result<Command<'a>, UsageError<'a>>
-    ensures { told command_of result ≡ alone (command_of command.entry) (texts rest.now) }
+    ensures { result_as command_of result ≡ command_alone (command_of command.entry) (texts rest.now) }
 {
     match rest.first() {
         None => Ok(command),
@@ -89,7 +89,7 @@ fn alone<'a>(rest: &'a [String], command: Command<'a>) -> Result<Command<'a>, Us
 
 // A listing's file, and where the calls come from.
 fn read_compare(rest: &[String]) -> Result<Command<'_>, UsageError<'_>>
-    ensures { told command_of result ≡ compared (texts rest.now) }
+    ensures { result_as command_of result ≡ compare_command (texts rest.now) }
 {
     let (first, rest) = rest.split_first().ok_or(UsageError::NoListing)?;
     let listing = read_path(first.as_str())?;
@@ -99,7 +99,7 @@ fn read_compare(rest: &[String]) -> Result<Command<'_>, UsageError<'_>>
 
 // Where the calls come from: the one file that is named, or standard input.
 fn read_source(words: &[String]) -> Result<Source<'_>, UsageError<'_>>
-    ensures { told calls_of result ≡ calls_in (texts words.now) }
+    ensures { result_as calls_of result ≡ calls_from (texts words.now) }
 {
     match words {
         [] => Ok(Source::StandardInput),
@@ -114,7 +114,7 @@ fn read_source(words: &[String]) -> Result<Source<'_>, UsageError<'_>>
 
 // A file's name. A word that begins with a dash is an option and names no file.
 fn read_path(word: &str) -> Result<&str, UsageError<'_>>
-    ensures { told (λ name. name.now) result ≡ name_in word.now }
+    ensures { result_as (λ name. name.now) result ≡ file_name word.now }
 {
     match word.as_bytes() {
         [b'-', ..] => Err(UsageError::UnknownWord { word }),

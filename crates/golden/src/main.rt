@@ -5,9 +5,9 @@ ghost use Rattle.std.specs.Io.{ReadsAtMost};
 
 use anyhow::Context;
 use command::{Command, Source, read_command};
-use explain::explain::explain;
-use listing::listing::{enough_bytes, list};
-use report::report::make_report;
+use explain::explain;
+use listing::{enough_bytes, list};
+use report::make_report;
 use std::fs::File;
 use std::io::{Read, Write};
 use std::process::ExitCode;

@@ -11,7 +11,7 @@ use Rattle.machine.specs.Running.{run_of}
 use Rattle.calls.specs.declared.file.BookKind.{BookKind}
 use Rattle.calls.specs.declared.file.BookKind.TheVariants.{Exact, Condensed}
 use Rattle.calls.specs.declared.file.CallsFile.{CallsFile}
-use Rattle.listing.specs.Listing.{run_text, book_text, said_text}
+use Rattle.listing.specs.Listing.{run_text, book_text, calls_file_text}
 
 -- The listing of a run over some words, from a state of a book.
 abbrev pub words_text : (k : Kind) → k.State → List ℕ → List ℕ → List Call → Option Fault → ℕ → List ℕ
@@ -41,20 +41,20 @@ module _ {A E : Type 0} (r : Result (String A) E) (file : CallsFile) where
   listed_by :
       (kind : BookKind) → file.book ≡ kind
       → IfOk r (λ t. string_bytes t ≡ book_text kind stamps values calls file.fault)
-      → IfOk r (λ t. string_bytes t ≡ said_text file)
+      → IfOk r (λ t. string_bytes t ≡ calls_file_text file)
   listed_by kind is h =
       subst (λ b. IfOk r (λ t. string_bytes t ≡ book_text b stamps values calls file.fault)) (sym is) h
 
   pub exact_listed :
       file.book ≡ Exact
       → IfOk r (λ t. string_bytes t ≡ words_text exact exact_new stamps values calls file.fault (length values))
-      → IfOk r (λ t. string_bytes t ≡ said_text file)
+      → IfOk r (λ t. string_bytes t ≡ calls_file_text file)
   unfolding book_text
   exact_listed is h = listed_by Exact is h
 
   pub condensed_listed :
       file.book ≡ Condensed
       → IfOk r (λ t. string_bytes t ≡ words_text condensed condensed_new stamps values calls file.fault (length values))
-      → IfOk r (λ t. string_bytes t ≡ said_text file)
+      → IfOk r (λ t. string_bytes t ≡ calls_file_text file)
   unfolding book_text
   condensed_listed is h = listed_by Condensed is h

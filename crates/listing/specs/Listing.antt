@@ -50,8 +50,8 @@ book_text Condensed stamps values calls found =
     run_text (run_of condensed (word_lines values) condensed_new stamps calls) calls found (length values)
 
 -- The listing of what was read of a file whose header is sound.
-abbrev pub said_text : CallsFile → List ℕ
-said_text file =
+abbrev pub calls_file_text : CallsFile → List ℕ
+calls_file_text file =
     book_text file.book (vec_items file.stamps) (vec_items file.values) (vec_items file.calls) file.fault
 
 -- The listing of a file whose header is sound, by its bytes. A sound header names a book.

@@ -3,21 +3,17 @@ ghost use Rattle.std.specs.Prelude.{◌≡◌, ◌+◌, IfOk, string_bytes};
 ghost use Rattle.calls.specs.Front.{longest_file};
 ghost use Rattle.machine.specs.Running.{run_of};
 ghost use Rattle.listing.specs.Rows.{bad_row};
-ghost use Rattle.listing.specs.Listing.{run_text, said_text, listing_text, FrontIsEnough};
+ghost use Rattle.listing.specs.Listing.{run_text, calls_file_text, listing_text, FrontIsEnough};
 
 use crate::row::Tail;
 use crate::rows::Rows;
 use crate::text::add_bad_row;
-use book::exact::ExactBook;
-use book::record::Book;
-use calls::file::{BookKind, CallsFile, ReadError};
-use calls::reader::{self, read};
-use condensed::state::CondensedBook;
-use machine::running::run_to_vec;
-use memory::store::Memory;
-use memory::word::WordMemory;
-use protocol::call::Call;
-use protocol::fault::Fault;
+use book::{Book, ExactBook};
+use calls::{self, BookKind, CallsFile, ReadError, read};
+use condensed::CondensedBook;
+use machine::run_to_vec;
+use memory::{Memory, WordMemory};
+use protocol::{Call, Fault};
 use std::alloc::{AllocError, Global};
 
 /// The listing of a calls file. Nothing is listed only where memory is wanting.
@@ -52,7 +48,7 @@ fn list_damage(heap: Global, fault: Fault) -> Result<String, AllocError>
 
 // The listing of a file whose header is sound.
 fn list_file(heap: Global, file: CallsFile) -> Result<String, AllocError>
-    ensures { IfOk result (λ t. string_bytes t ≡ said_text file) }
+    ensures { IfOk result (λ t. string_bytes t ≡ calls_file_text file) }
 {
     let CallsFile {
         book,
@@ -95,7 +91,7 @@ impl Script<'_> {
         book: B,
     ) -> Result<String, AllocError>
         ensures { IfOk result (λ t. string_bytes t ≡ run_text
-            (run_of B.Book.kind (M.Memory.at memory) (B.Book.model book) self.now.stamps.now self.now.calls.now)
+            (run_of B.kind (M.at memory) (B.model book) self.now.stamps.now self.now.calls.now)
             self.now.calls.now self.now.fault self.now.lines) }
     {
         let (ran, answers) = run_to_vec(heap, memory, book, self.stamps, self.calls)?;

@@ -4,9 +4,7 @@ ghost use Rattle.std.specs.Prelude.{◌≡◌, ◌+◌, ◌≤◌, ◌<◌, [], 
 ghost use Rattle.protocol.specs.Answers.{answer_text, reply_text};
 
 use itoa::write_digits;
-use protocol::answer::Answer;
-use protocol::call::Call;
-use protocol::fault::Fault;
+use protocol::{Answer, Call, Fault};
 use std::str;
 
 /// More bytes than any row has.

@@ -3,12 +3,10 @@ ghost use Rattle.std.specs.Prelude.{◌≡◌, ◌++◌, [], OnOk, IsUtf8, strin
 ghost use Rattle.listing.specs.Listing.{call_rows, line_row, mem_rows};
 
 use crate::row::Tail;
-use book::record::Book;
-use machine::state::Machine;
-use memory::store::Memory;
-use protocol::answer::Answer;
-use protocol::call::Call;
-use protocol::fault::Fault;
+use book::Book;
+use machine::Machine;
+use memory::Memory;
+use protocol::{Answer, Call, Fault};
 use std::alloc::{AllocError, Global};
 
 /// The rows so far.
@@ -61,7 +59,7 @@ impl Rows {
         limit: u32,
     ) -> Result<(), AllocError>
         ensures { OnOk result (self.new.bytes.items
-            ≡ self.old.bytes.items ++ mem_rows (M.Memory.at machine.now.memory) limit) }
+            ≡ self.old.bytes.items ++ mem_rows (M.at machine.now.memory) limit) }
     {
         let mut row = Tail::new();
         for line in 0..limit {
@@ -78,7 +76,7 @@ impl Rows {
         line: u32,
     ) -> Result<(), AllocError>
         ensures { OnOk result (self.new.bytes.items
-            ≡ self.old.bytes.items ++ line_row line (M.Memory.at machine.now.memory line)) }
+            ≡ self.old.bytes.items ++ line_row line (M.at machine.now.memory line)) }
     {
         match machine.value(line) {
             Ok(value) => {

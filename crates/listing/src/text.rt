@@ -3,9 +3,7 @@ ghost use Rattle.std.specs.Prelude.{◌≡◌, ◌++◌, OnOk, OnErr, string_byt
 ghost use Rattle.listing.specs.Rows.{mem_row, bad_row, call_row};
 
 use crate::row::Tail;
-use protocol::answer::Answer;
-use protocol::call::Call;
-use protocol::fault::Fault;
+use protocol::{Answer, Call, Fault};
 use std::alloc::AllocError;
 
 /// Adds the row of a line's value at the end of a run.

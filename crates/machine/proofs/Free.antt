@@ -5,8 +5,8 @@ use Rattle.protocol.specs.Limits.{log_limit}
 use Rattle.rules.specs.State.{WarpRow, is_waiting}
 use Rattle.rules.specs.declared.state.Phase.{Phase}
 use Rattle.rules.specs.declared.state.Phase.TheVariants.{Idle, Open, Waiting, Settled}
-use Rattle.tables.specs.Phases.{highest_stamp, is_open}
-use Rattle.tables.specs.Pages.{set_if, may_rest, may_log}
+use Rattle.machine.specs.Phases.{highest_stamp, is_open}
+use Rattle.machine.specs.Warps.{set_if, may_rest, may_log}
 
 -- An open warp does not wait.
 pub open_free : (p : Phase) → is_open p ≡ true → is_waiting p ≡ false

@@ -1,3 +1,7 @@
+mod Words
+pub mod WarpRows
+mod Fitting
+mod Order
 mod Free
 mod Served
 mod Withdrawn

@@ -10,9 +10,9 @@ use Rattle.protocol.specs.declared.fault.Fault.{Fault}
 use Rattle.book.specs.Meaning.{Kind}
 use Rattle.rules.specs.Queue.{Policy}
 use Rattle.rules.specs.State.{Machine}
-use Rattle.rules.specs.Runs.{Event, Run, goes_on, event_of, run}
+use Rattle.rules.specs.Runs.{Event, Run, run_with_call, event_of, run}
 use Rattle.rules.specs.Steps.{step}
-use Rattle.machine.specs.Running.{answers_in, answered, calls_made}
+use Rattle.machine.specs.Running.{answers_in, places_after, calls_made}
 
 -- A write behind the first places.
 seam : {X : Type 0} (xs ys : List X) (i : ℕ) (d a : X) → length xs ≡ i → i < length ys
@@ -28,8 +28,8 @@ module _ (places : List (Result Answer Fault)) where
   -- One answer more, behind those that are there.
   one_more :
       (events : List Event) (e : Event) (i : ℕ) (answers next : List (Result Answer Fault)) (answer : Result Answer Fault)
-      → length events ≡ i → i < length places → answers ≡ answered events places → next ≡ set answers i answer
-      → answer ≡ e.answer → next ≡ answered (events ++ e ∷ []) places
+      → length events ≡ i → i < length places → answers ≡ places_after events places → next ≡ set answers i answer
+      → answer ≡ e.answer → next ≡ places_after (events ++ e ∷ []) places
   one_more events e i answers next answer count low was set_it says =
       set_it
       ∙ ap (λ zs. set zs i answer) (was ∙ ap (λ n. answers_in events ++ drop n places) count)
@@ -42,11 +42,11 @@ module _ (places : List (Result Answer Fault)) where
 module _ {k : Kind} (policy : Policy k) where
   -- A run has an event for each call.
   more_events : (r : Run k) (calls : List Call)
-      → length (fold (goes_on policy) r calls).events ≡ length r.events + length calls
-  unfolding goes_on
+      → length (fold (run_with_call policy) r calls).events ≡ length r.events + length calls
+  unfolding run_with_call
   more_events r [] = omega arith
   more_events r (call ∷ calls) =
-      let z = more_events (goes_on policy r call) calls in
+      let z = more_events (run_with_call policy r call) calls in
       let y = length-append r.events (event_of policy r.machine call ∷ []) in
       omega arith
 
@@ -57,7 +57,7 @@ module _ {k : Kind} (policy : Policy k) where
     -- A machine and the places for answers are what some calls leave of them.
     pub record So (calls : List Call) (machine : Machine k) (answers : List (Result Answer Fault)) : Type 0 where
       pub machine_is : machine ≡ (run policy start calls).machine
-      pub answers_are : answers ≡ answered (run policy start calls).events places
+      pub answers_are : answers ≡ places_after (run policy start calls).events places
 
     module _ (calls : List Call) where
       pub run_more :
@@ -66,13 +66,13 @@ module _ {k : Kind} (policy : Policy k) where
           → call ≡ get_or calls i d → So (take i calls) machine answers
           → after ≡ (step policy machine call).machine → answer ≡ (step policy machine call).answer
           → next ≡ set answers i answer → So (take (i + 1) calls) after next
-      unfolding goes_on
+      unfolding run_with_call
       run_more i call d machine after answers next answer low fits is inv a b c =
           let before = run policy start (take i calls) in
-          let more : run policy start (take (i + 1) calls) ≡ goes_on policy before (get_or calls i d) =
-          fold_more (goes_on policy) (record { machine = start; events = [] }) calls i d low in
-          let at : goes_on policy before call ≡ run policy start (take (i + 1) calls) =
-          ap (goes_on policy before) is ∙ sym more in
+          let more : run policy start (take (i + 1) calls) ≡ run_with_call policy before (get_or calls i d) =
+          fold_more (run_with_call policy) (record { machine = start; events = [] }) calls i d low in
+          let at : run_with_call policy before call ≡ run policy start (take (i + 1) calls) =
+          ap (run_with_call policy before) is ∙ sym more in
           let count : length before.events ≡ i =
           events_count start (take i calls) ∙ (let z = length-take i calls in omega arith) in
           record {
@@ -81,7 +81,7 @@ module _ {k : Kind} (policy : Policy k) where
             answers_are =
                 one_more places before.events (event_of policy before.machine call) i answers next answer count
                 (omega arith) inv.answers_are c (b ∙ ap (λ m. (step policy m call).answer) inv.machine_is)
-                ∙ ap (λ (r : Run k). answered r.events places) at;
+                ∙ ap (λ (r : Run k). places_after r.events places) at;
           }
 
       pub run_whole :
@@ -91,20 +91,20 @@ module _ {k : Kind} (policy : Policy k) where
           let all = ap (run policy start) (take_all i calls past) in
           record {
             machine_is = inv.machine_is ∙ ap (λ (r : Run k). r.machine) all;
-            answers_are = inv.answers_are ∙ ap (λ (r : Run k). answered r.events places) all;
+            answers_are = inv.answers_are ∙ ap (λ (r : Run k). places_after r.events places) all;
           }
 
       -- With a place for each call, the answers are all that the places hold.
       pub all_answered :
           (len : ℕ) (answers rest : List (Result Answer Fault)) → length places ≡ length calls → len ≡ length calls
-          → answers ≡ answered (run policy start (calls_made calls places)).events places
+          → answers ≡ places_after (run policy start (calls_made calls places)).events places
           → take len (answers ++ rest) ≡ answers_in (run policy start calls).events
       all_answered len answers rest room is e =
           let events = (run policy start calls).events in
           let count = events_count start calls in
           let made : calls_made calls places ≡ calls = take_all (length places) calls (omega arith) in
           let whole : answers ≡ answers_in events =
-          e ∙ ap (λ cs. answered (run policy start cs).events places) made
+          e ∙ ap (λ cs. places_after (run policy start cs).events places) made
           ∙ ap (λ ps. answers_in events ++ ps) (drop_all (length events) places (omega arith))
           ∙ append-nil (answers_in events) in
           take_at answers rest len

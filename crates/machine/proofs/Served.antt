@@ -3,14 +3,14 @@ use Rattle.std.proofs.Common.{◌≡◌, ℕ, nat_lt, true, List, length, set, s
 use Rattle.protocol.specs.Limits.{log_limit}
 use Rattle.protocol.specs.declared.answer.Outcome.TheVariants.{Value, Stored}
 use Rattle.memory.specs.Lines.{Lines}
-use Rattle.book.specs.Meaning.{Kind, added}
-use Rattle.rules.specs.State.{WarpRow, Machine, logging, with_book, warp_row_at, warp_row_of}
-use Rattle.rules.specs.Serving.{memory_value, reads, serves, serves_own}
+use Rattle.book.specs.Meaning.{Kind, state_after_add}
+use Rattle.rules.specs.State.{WarpRow, Machine, row_with_store, with_book, warp_row_at, warp_row_of}
+use Rattle.rules.specs.Serving.{memory_value, with_read_noted, served_on_free_line, served_on_own_line}
 use Rattle.rules.specs.declared.state.Access.{Access}
 use Rattle.rules.specs.declared.state.Access.TheVariants.{Read, Write}
 use Rattle.rules.specs.declared.state.Request.{Request}
-use Rattle.tables.specs.Pages.{has_room}
-use Rattle.machine.specs.Moves.{own_value, reserving}
+use Rattle.machine.specs.Warps.{has_room}
+use Rattle.machine.specs.CallParts.{own_value, with_line_reserved}
 
 module _ {k : Kind} where
   abbrev pub built : Lines → k.State → List WarpRow → List Request → Machine k
@@ -29,56 +29,56 @@ module _ {k : Kind} where
 
   module _ (m : Machine k) (w line : ℕ) where
     abbrev logs_it : ℕ → List WarpRow → List WarpRow
-    logs_it value ls = set ls w (logging (warp_row_at ls w) line value)
+    logs_it value ls = set ls w (row_with_store (warp_row_at ls w) line value)
 
-    pub read_served : (after : Machine k) (access : Access) → access ≡ Read → after ≡ reads m w line
-        → after ≡ (serves m w line access).machine
-    unfolding serves
-    read_served after access is e = e ∙ ap (λ a. (serves m w line a).machine) (sym is)
+    pub read_served : (after : Machine k) (access : Access) → access ≡ Read → after ≡ with_read_noted m w line
+        → after ≡ (served_on_free_line m w line access).machine
+    unfolding served_on_free_line
+    read_served after access is e = e ∙ ap (λ a. (served_on_free_line m w line a).machine) (sym is)
 
     pub read_value : (value : ℕ) (access : Access) → access ≡ Read → value ≡ memory_value m line
-        → Value value ≡ (serves m w line access).outcome
-    unfolding serves
-    read_value value access is e = ap Value e ∙ ap (λ a. (serves m w line a).outcome) (sym is)
+        → Value value ≡ (served_on_free_line m w line access).outcome
+    unfolding served_on_free_line
+    read_value value access is e = ap Value e ∙ ap (λ a. (served_on_free_line m w line a).outcome) (sym is)
 
     pub write_served :
         (mid : Machine k) (warp_rows : List WarpRow) (queue : List Request) (value : ℕ) (access : Access)
         → access ≡ Write value
-        → mid ≡ reserving m w line → warp_rows ≡ logs_it value mid.warp_rows → queue ≡ mid.queue
-        → built mid.lines mid.book warp_rows queue ≡ (serves m w line access).machine
-    unfolding serves
+        → mid ≡ with_line_reserved m w line → warp_rows ≡ logs_it value mid.warp_rows → queue ≡ mid.queue
+        → built mid.lines mid.book warp_rows queue ≡ (served_on_free_line m w line access).machine
+    unfolding served_on_free_line
     write_served mid warp_rows queue value access is e a b =
-        then_tables mid (reserving m w line) warp_rows queue (logs_it value) (λ q. q) e a b
-        ∙ ap (λ a. (serves m w line a).machine) (sym is)
+        then_tables mid (with_line_reserved m w line) warp_rows queue (logs_it value) (λ q. q) e a b
+        ∙ ap (λ a. (served_on_free_line m w line a).machine) (sym is)
 
-    pub write_stored : (value : ℕ) (access : Access) → access ≡ Write value → Stored ≡ (serves m w line access).outcome
-    unfolding serves
-    write_stored value access is = ap (λ a. (serves m w line a).outcome) (sym is)
+    pub write_stored : (value : ℕ) (access : Access) → access ≡ Write value → Stored ≡ (served_on_free_line m w line access).outcome
+    unfolding served_on_free_line
+    write_stored value access is = ap (λ a. (served_on_free_line m w line a).outcome) (sym is)
 
-    pub own_read_served : (after : Machine k) (access : Access) → access ≡ Read → after ≡ reads m w line
-        → after ≡ (serves_own m w line access).machine
-    unfolding serves_own
-    own_read_served after access is e = e ∙ ap (λ a. (serves_own m w line a).machine) (sym is)
+    pub own_read_served : (after : Machine k) (access : Access) → access ≡ Read → after ≡ with_read_noted m w line
+        → after ≡ (served_on_own_line m w line access).machine
+    unfolding served_on_own_line
+    own_read_served after access is e = e ∙ ap (λ a. (served_on_own_line m w line a).machine) (sym is)
 
     pub own_read_value : (value : ℕ) (access : Access) → access ≡ Read → value ≡ own_value m w line
-        → Value value ≡ (serves_own m w line access).outcome
-    unfolding serves_own
-    own_read_value value access is e = ap Value e ∙ ap (λ a. (serves_own m w line a).outcome) (sym is)
+        → Value value ≡ (served_on_own_line m w line access).outcome
+    unfolding served_on_own_line
+    own_read_value value access is e = ap Value e ∙ ap (λ a. (served_on_own_line m w line a).outcome) (sym is)
 
     pub own_write_served :
         (book : k.State) (warp_rows : List WarpRow) (queue : List Request) (value : ℕ) (access : Access)
-        → access ≡ Write value → book ≡ added k m.book line → warp_rows ≡ logs_it value m.warp_rows → queue ≡ m.queue
-        → built m.lines book warp_rows queue ≡ (serves_own m w line access).machine
-    unfolding serves_own
+        → access ≡ Write value → book ≡ state_after_add k m.book line → warp_rows ≡ logs_it value m.warp_rows → queue ≡ m.queue
+        → built m.lines book warp_rows queue ≡ (served_on_own_line m w line access).machine
+    unfolding served_on_own_line
     own_write_served book warp_rows queue value access is e a b =
-        then_tables (with_book m book) (with_book m (added k m.book line)) warp_rows queue (logs_it value) (λ q. q)
+        then_tables (with_book m book) (with_book m (state_after_add k m.book line)) warp_rows queue (logs_it value) (λ q. q)
         (ap (with_book m) e) a b
-        ∙ ap (λ a. (serves_own m w line a).machine) (sym is)
+        ∙ ap (λ a. (served_on_own_line m w line a).machine) (sym is)
 
     pub own_write_stored : (value : ℕ) (access : Access) → access ≡ Write value
-        → Stored ≡ (serves_own m w line access).outcome
-    unfolding serves_own
-    own_write_stored value access is = ap (λ a. (serves_own m w line a).outcome) (sym is)
+        → Stored ≡ (served_on_own_line m w line access).outcome
+    unfolding served_on_own_line
+    own_write_stored value access is = ap (λ a. (served_on_own_line m w line a).outcome) (sym is)
 
     -- A warp whose log had room for a store still has it where its log is as it was.
     pub room_for_it :

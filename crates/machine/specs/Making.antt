@@ -5,11 +5,11 @@ use Rattle.protocol.specs.Limits.{warp_limit}
 use Rattle.protocol.specs.declared.fault.Fault.{Fault}
 use Rattle.protocol.specs.declared.fault.Refusal.TheVariants.{BadSize, BadStamp}
 use Rattle.rules.specs.Making.{first_late, late_fault}
-use Rattle.rules.specs.Refusals.{unless}
-use Rattle.machine.specs.Moves.{passed}
+use Rattle.rules.specs.Refusals.{fault_unless}
+use Rattle.machine.specs.CallParts.{as_result}
 
 abbrev pub count_fault : ℕ → Result (Unit {0}) Fault
-count_fault count = passed (unless (nat_lt 0 count && nat_le count warp_limit) BadSize count)
+count_fault count = as_result (fault_unless (nat_lt 0 count && nat_le count warp_limit) BadSize count)
 
 abbrev pub stamp_fault : List ℕ → ℕ → Result (Unit {0}) Fault
-stamp_fault stamps latest = passed (option_or (late_fault (first_late stamps)) (unless (latest == 0) BadStamp latest))
+stamp_fault stamps latest = as_result (option_or (late_fault (first_late stamps)) (fault_unless (latest == 0) BadStamp latest))

@@ -2,18 +2,17 @@
 ghost use Rattle.std.specs.Prelude.{◌≡◌, length, nat_lt};
 ghost use Rattle.protocol.specs.declared.fault.Refusal.TheVariants.{NoSuchWarp, NoSuchLine};
 ghost use Rattle.rules.specs.Refusals.{idle_refuses, open_refuses, pending_refuses, phase_refuses};
-ghost use Rattle.rules.specs.Refusals.{faulty, unless, has_line, number_fault, fault_of};
-ghost use Rattle.tables.specs.Pages.{warp_rows, warp_row};
+ghost use Rattle.rules.specs.Refusals.{refusal_fault, fault_unless, has_line, number_fault, fault_of};
+ghost use Rattle.machine.specs.Warps.{warp_rows, warp_row};
 ghost use Rattle.machine.specs.Meaning.{state};
-ghost use Rattle.machine.specs.Moves.{passed, room_fault, clock_fault, asked_fault};
+ghost use Rattle.machine.specs.CallParts.{as_result, room_fault, clock_fault, warp_fault};
 
-use crate::state::Machine;
-use book::record::Book;
-use memory::store::{Memory, no_such_line};
-use protocol::call::{Call, Op};
-use protocol::fault::{Fault, Refusal};
+use crate::machine::Machine;
+use book::Book;
+use memory::{Memory, no_such_line};
 use protocol::limits::{LAST_STAMP, LINES, STORES};
-use rules::state::Phase;
+use protocol::{Call, Fault, Op, Refusal};
+use rules::Phase;
 
 /// What a warp without a transaction may not ask for.
 fn idle_refuses(op: Op) -> Option<Refusal>
@@ -63,9 +62,9 @@ fn phase_refuses(phase: Phase, op: Op) -> Option<Refusal>
 impl<M: Memory, B: Book> Machine<M, B> {
     /// The warp is one of the machine's.
     fn check_warp(&self, warp: u32) -> Result<(), Fault>
-        ensures { result ≡ passed (unless (nat_lt warp (length (warp_rows self.now.tables))) NoSuchWarp warp) }
+        ensures { result ≡ as_result (fault_unless (nat_lt warp (length (warp_rows self.now.warps))) NoSuchWarp warp) }
     {
-        if warp as usize >= self.tables.warps() {
+        if warp as usize >= self.warps.warps() {
             return Err(Fault::in_call(Refusal::NoSuchWarp, u64::from(warp)));
         }
         Ok(())
@@ -74,10 +73,10 @@ impl<M: Memory, B: Book> Machine<M, B> {
     // A match, since `map_or` would say what is good first and what is refused last.
     /// The warp may ask for this in its phase.
     fn check_phase(&self, call: Call) -> Result<(), Fault>
-        ensures { result ≡ passed
-            (faulty (phase_refuses (warp_row self.now.tables call.warp).phase call.op) call.warp) }
+        ensures { result ≡ as_result
+            (refusal_fault (phase_refuses (warp_row self.now.warps call.warp).phase call.op) call.warp) }
     {
-        match phase_refuses(self.tables.phase(call.warp), call.op) {
+        match phase_refuses(self.warps.phase(call.warp), call.op) {
             Some(why) => Err(Fault::in_call(why, u64::from(call.warp))),
             None => Ok(()),
         }
@@ -85,8 +84,8 @@ impl<M: Memory, B: Book> Machine<M, B> {
 
     /// The memory has the line, and a book can number it.
     fn check_line(&self, line: u32) -> Result<(), Fault>
-        ensures { result ≡ passed
-            (unless (has_line (state M.Memory.at B.Book.kind B.Book.model self.now) line)
+        ensures { result ≡ as_result
+            (fault_unless (has_line (state M.at B.kind B.model self.now) line)
             NoSuchLine line) }
     {
         if line >= LINES {
@@ -98,9 +97,9 @@ impl<M: Memory, B: Book> Machine<M, B> {
 
     /// The warp's log has room for one store more.
     fn check_room(&self, warp: u32) -> Result<(), Fault>
-        ensures { result ≡ passed (room_fault (warp_row self.now.tables warp)) }
+        ensures { result ≡ as_result (room_fault (warp_row self.now.warps warp)) }
     {
-        let stored = self.tables.stored(warp);
+        let stored = self.warps.stored(warp);
         if stored >= STORES {
             return Err(Fault::in_call(Refusal::LogFull, stored as u64));
         }
@@ -109,9 +108,9 @@ impl<M: Memory, B: Book> Machine<M, B> {
 
     /// The warp's stamp is not past the end of the clock.
     fn check_clock(&self, warp: u32) -> Result<(), Fault>
-        ensures { result ≡ passed (clock_fault (warp_row self.now.tables warp)) }
+        ensures { result ≡ as_result (clock_fault (warp_row self.now.warps warp)) }
     {
-        let stamp = self.tables.stamp(warp);
+        let stamp = self.warps.stamp(warp);
         if stamp > u64::from(LAST_STAMP) {
             return Err(Fault::in_call(Refusal::ClockSpent, stamp));
         }
@@ -120,8 +119,8 @@ impl<M: Memory, B: Book> Machine<M, B> {
 
     /// A line that is lacking, a full log, a clock that is spent.
     fn check_number(&self, call: Call) -> Result<(), Fault>
-        ensures { result ≡ passed
-            (number_fault (state M.Memory.at B.Book.kind B.Book.model self.now) call.warp call.op) }
+        ensures { result ≡ as_result
+            (number_fault (state M.at B.kind B.model self.now) call.warp call.op) }
     {
         match call.op {
             Op::Begin => self.check_clock(call.warp),
@@ -136,8 +135,8 @@ impl<M: Memory, B: Book> Machine<M, B> {
 
     /// The refusals of a warp that the machine has.
     fn check_asked(&self, call: Call) -> Result<(), Fault>
-        ensures { result ≡ passed
-            (asked_fault (state M.Memory.at B.Book.kind B.Book.model self.now) call.warp call.op) }
+        ensures { result ≡ as_result
+            (warp_fault (state M.at B.kind B.model self.now) call.warp call.op) }
     {
         self.check_phase(call)?;
         self.check_number(call)
@@ -145,8 +144,8 @@ impl<M: Memory, B: Book> Machine<M, B> {
 
     /// All refusals, in the order of their numbers.
     pub(crate) fn check(&self, call: Call) -> Result<(), Fault>
-        ensures { result ≡ passed
-            (fault_of (state M.Memory.at B.Book.kind B.Book.model self.now) call) }
+        ensures { result ≡ as_result
+            (fault_of (state M.at B.kind B.model self.now) call) }
     {
         self.check_warp(call.warp)?;
         self.check_asked(call)

@@ -3,16 +3,14 @@ ghost use Rattle.std.specs.Prelude.{◌≡◌, ◌≤◌, length, None, IfOk};
 ghost use Rattle.rules.specs.Making.{making_fault};
 ghost use Rattle.rules.specs.Runs.{run as run_from};
 ghost use Rattle.machine.specs.Meaning.{state, policy_of, loan};
-ghost use Rattle.machine.specs.Moves.{passed};
-ghost use Rattle.machine.specs.Running.{run_of, calls_made, answers_in, answered};
+ghost use Rattle.machine.specs.CallParts.{as_result};
+ghost use Rattle.machine.specs.Running.{run_of, calls_made, answers_in, places_after};
 ghost use Rattle.machine.specs.Running.{AccountsOf, ExplainedOf, WaitsOf, TablesOf, FetchesOf};
 
-use crate::state::Machine;
-use book::record::Book;
-use memory::store::Memory;
-use protocol::answer::Answer;
-use protocol::call::Call;
-use protocol::fault::Fault;
+use crate::machine::Machine;
+use book::Book;
+use memory::Memory;
+use protocol::{Answer, Call, Fault};
 use std::alloc::{AllocError, Global};
 
 /// What a run leaves: the machine, and what was wrong with its shape.
@@ -26,14 +24,14 @@ impl<M: Memory, B: Book> Machine<M, B> {
     /// Makes a list of calls, and puts each answer in its place.
     fn make_calls(&mut self, calls: &[Call], answers: &mut [Result<Answer, Fault>])
         requires { length calls.now ≤ length answers.old }
-        ensures after { state M.Memory.at B.Book.kind B.Book.model self.new
-            ≡ (run_from (policy_of B.Book.kind self.old)
-            (state M.Memory.at B.Book.kind B.Book.model self.old) calls.now).machine }
+        ensures after { state M.at B.kind B.model self.new
+            ≡ (run_from (policy_of B.kind self.old)
+            (state M.at B.kind B.model self.old) calls.now).machine }
         ensures answers { answers.new
-            ≡ answered (run_from (policy_of B.Book.kind self.old)
-            (state M.Memory.at B.Book.kind B.Book.model self.old) calls.now).events answers.old }
-        ensures loan { loan M.Memory.lent M.Memory.spare self.new
-            ≡ loan M.Memory.lent M.Memory.spare self.old }
+            ≡ places_after (run_from (policy_of B.kind self.old)
+            (state M.at B.kind B.model self.old) calls.now).events answers.old }
+        ensures loan { loan M.lent M.spare self.new
+            ≡ loan M.lent M.spare self.old }
     {
         for (place, call) in calls.iter().enumerate() {
             answers[place] = self.call(*call);
@@ -54,31 +52,31 @@ pub fn run<M: Memory, B: Book>(
     calls: &[Call],
     answers: &mut [Result<Answer, Fault>],
 ) -> Ran<M, B>
-    ensures machine { state M.Memory.at B.Book.kind B.Book.model result.machine
-        ≡ (run_of B.Book.kind (M.Memory.at memory) (B.Book.model book) stamps.now
+    ensures machine { state M.at B.kind B.model result.machine
+        ≡ (run_of B.kind (M.at memory) (B.model book) stamps.now
         (calls_made calls.now answers.old)).machine }
     ensures answers { answers.new
-        ≡ answered (run_of B.Book.kind (M.Memory.at memory) (B.Book.model book) stamps.now
+        ≡ places_after (run_of B.kind (M.at memory) (B.model book) stamps.now
         (calls_made calls.now answers.old)).events answers.old }
     ensures shape { result.shape
-        ≡ passed (making_fault B.Book.kind (B.Book.model book) stamps.now) }
-    ensures accounts { AccountsOf (M.Memory.at memory)
-        (run_of B.Book.kind (M.Memory.at memory) (B.Book.model book) stamps.now
+        ≡ as_result (making_fault B.kind (B.model book) stamps.now) }
+    ensures accounts { AccountsOf (M.at memory)
+        (run_of B.kind (M.at memory) (B.model book) stamps.now
         (calls_made calls.now answers.old)) }
-    ensures explained { ExplainedOf (M.Memory.at memory)
-        (run_of B.Book.kind (M.Memory.at memory) (B.Book.model book) stamps.now
+    ensures explained { ExplainedOf (M.at memory)
+        (run_of B.kind (M.at memory) (B.model book) stamps.now
         (calls_made calls.now answers.old)) }
     ensures waits { WaitsOf
-        (run_of B.Book.kind (M.Memory.at memory) (B.Book.model book) stamps.now
+        (run_of B.kind (M.at memory) (B.model book) stamps.now
         (calls_made calls.now answers.old)) }
-    ensures tables { making_fault B.Book.kind (B.Book.model book) stamps.now ≡ None → TablesOf
-        (run_of B.Book.kind (M.Memory.at memory) (B.Book.model book) stamps.now
+    ensures tables { making_fault B.kind (B.model book) stamps.now ≡ None → TablesOf
+        (run_of B.kind (M.at memory) (B.model book) stamps.now
         (calls_made calls.now answers.old)) }
     ensures fetches { FetchesOf
-        (run_of B.Book.kind (M.Memory.at memory) (B.Book.model book) stamps.now
+        (run_of B.kind (M.at memory) (B.model book) stamps.now
         (calls_made calls.now answers.old)) }
-    ensures loan { loan M.Memory.lent M.Memory.spare result.machine
-        ≡ (M.Memory.lent memory, M.Memory.spare memory) }
+    ensures loan { loan M.lent M.spare result.machine
+        ≡ (M.lent memory, M.spare memory) }
 {
     let (mut machine, shape) = Machine::make(memory, book, stamps);
     let count = calls.len().min(answers.len());
@@ -94,31 +92,31 @@ pub fn run_to_vec<M: Memory + Drop, B: Book + Drop>(
     stamps: &[u32],
     calls: &[Call],
 ) -> Result<(Ran<M, B>, Vec<Result<Answer, Fault>>), AllocError>
-    ensures machine { IfOk result (λ ran. state M.Memory.at B.Book.kind B.Book.model ran.0.machine
-        ≡ (run_of B.Book.kind (M.Memory.at memory) (B.Book.model book) stamps.now
+    ensures machine { IfOk result (λ ran. state M.at B.kind B.model ran.0.machine
+        ≡ (run_of B.kind (M.at memory) (B.model book) stamps.now
         calls.now).machine) }
     ensures answers { IfOk result (λ ran. ran.1.items
-        ≡ answers_in (run_of B.Book.kind (M.Memory.at memory) (B.Book.model book) stamps.now
+        ≡ answers_in (run_of B.kind (M.at memory) (B.model book) stamps.now
         calls.now).events) }
     ensures shape { IfOk result (λ ran. ran.0.shape
-        ≡ passed (making_fault B.Book.kind (B.Book.model book) stamps.now)) }
-    ensures accounts { AccountsOf (M.Memory.at memory)
-        (run_of B.Book.kind (M.Memory.at memory) (B.Book.model book) stamps.now
+        ≡ as_result (making_fault B.kind (B.model book) stamps.now)) }
+    ensures accounts { AccountsOf (M.at memory)
+        (run_of B.kind (M.at memory) (B.model book) stamps.now
         calls.now) }
-    ensures explained { ExplainedOf (M.Memory.at memory)
-        (run_of B.Book.kind (M.Memory.at memory) (B.Book.model book) stamps.now
+    ensures explained { ExplainedOf (M.at memory)
+        (run_of B.kind (M.at memory) (B.model book) stamps.now
         calls.now) }
     ensures waits { WaitsOf
-        (run_of B.Book.kind (M.Memory.at memory) (B.Book.model book) stamps.now
+        (run_of B.kind (M.at memory) (B.model book) stamps.now
         calls.now) }
-    ensures tables { making_fault B.Book.kind (B.Book.model book) stamps.now ≡ None → TablesOf
-        (run_of B.Book.kind (M.Memory.at memory) (B.Book.model book) stamps.now
+    ensures tables { making_fault B.kind (B.model book) stamps.now ≡ None → TablesOf
+        (run_of B.kind (M.at memory) (B.model book) stamps.now
         calls.now) }
     ensures fetches { FetchesOf
-        (run_of B.Book.kind (M.Memory.at memory) (B.Book.model book) stamps.now
+        (run_of B.kind (M.at memory) (B.model book) stamps.now
         calls.now) }
-    ensures loan { IfOk result (λ ran. loan M.Memory.lent M.Memory.spare ran.0.machine
-        ≡ (M.Memory.lent memory, M.Memory.spare memory)) }
+    ensures loan { IfOk result (λ ran. loan M.lent M.spare ran.0.machine
+        ≡ (M.lent memory, M.spare memory)) }
 {
     let mut answers = vec![in heap; Ok(Answer::Wait); calls.len()]?;
     let ran = run(memory, book, stamps, calls, answers.as_mut_slice());

@@ -1,32 +1,19 @@
 //! The access steps: what a load or a store meets at its line. The first step that applies decides.
 ghost use Rattle.std.specs.Prelude.{◌≡◌, ◌≤◌};
 ghost use Rattle.rules.specs.Access.{stamp_past, unowned, by_owner, by_mark, retried, decide};
-ghost use Rattle.tables.specs.Phases.{highest_stamp};
-ghost use Rattle.machine.specs.Verdicts.{told_as, verdict_as, NextWithin};
+ghost use Rattle.machine.specs.Phases.{highest_stamp};
+ghost use Rattle.machine.specs.Verdicts.{NextWithin};
 
-use book::record::Told;
-use protocol::answer::Cause;
-use rules::state::Access;
-
-/// What becomes of a load or a store.
-#[derive(Clone, Copy)]
-pub enum Verdict {
-    /// The line is its warp's own.
-    OwnLine,
-    /// The transaction is gone.
-    Lost { cause: Cause, next: u64 },
-    /// The request waits.
-    MustWait,
-    /// It goes on.
-    GoOn,
-}
+use book::LineState;
+use protocol::Cause;
+use rules::{Access, Verdict};
 
 /// What a load or a store meets at its line.
 #[derive(Clone, Copy)]
 pub struct Encounter {
     pub access: Access,
     /// What the book tells of the line.
-    pub told: Told,
+    pub line: LineState,
     /// The logical time of the transaction: a pair of stamp and warp.
     pub time: (u64, u32),
     ghost bound: { time.0 ≤ highest_stamp },
@@ -35,11 +22,11 @@ pub struct Encounter {
 impl Encounter {
     /// All steps, in their order: first the warp's own line.
     pub fn decide(self) -> Verdict
-        ensures value { verdict_as result ≡ decide self.access (told_as self.told) self.time }
+        ensures value { result ≡ decide self.access self.line self.time }
         ensures bound { NextWithin highest_stamp result }
     {
         let (_, warp) = self.time;
-        match self.told.owner {
+        match self.line.owner {
             Some(owner) if owner == warp => Verdict::OwnLine,
             Some(_) | None => self.retried(),
         }
@@ -47,13 +34,13 @@ impl Encounter {
 
     /// Nothing comes before a write that is logically later. A request that waited is tried from here on.
     pub fn retried(self) -> Verdict
-        ensures value { verdict_as result
-            ≡ retried self.access (told_as self.told) self.time }
+        ensures value { result
+            ≡ retried self.access self.line self.time }
         ensures bound { NextWithin highest_stamp result }
     {
         let (stamp, _) = self.time;
-        if stamp < u64::from(self.told.written) {
-            return Verdict::Lost {
+        if stamp < u64::from(self.line.write_stamp) {
+            return Verdict::Gone {
                 cause: Cause::WrittenLater,
                 next: self.past(),
             };
@@ -63,13 +50,13 @@ impl Encounter {
 
     /// A store must not come before a read that is logically later.
     fn by_mark(self) -> Verdict
-        ensures value { verdict_as result
-            ≡ by_mark self.access (told_as self.told) self.time }
+        ensures value { result
+            ≡ by_mark self.access self.line self.time }
         ensures bound { NextWithin highest_stamp result }
     {
-        let (read, by) = self.told.read;
+        let (read, by) = self.line.read_mark;
         match self.access {
-            Access::Write { .. } if self.time < (u64::from(read), by) => Verdict::Lost {
+            Access::Write { .. } if self.time < (u64::from(read), by) => Verdict::Gone {
                 cause: Cause::ReadLater,
                 next: self.past(),
             },
@@ -79,11 +66,11 @@ impl Encounter {
 
     /// The line is another warp's: the request must wait.
     fn by_owner(self) -> Verdict
-        ensures value { verdict_as result
-            ≡ by_owner self.told.owner self.access (told_as self.told) self.time }
+        ensures value { result
+            ≡ by_owner self.line.owner self.access self.line self.time }
         ensures bound { NextWithin highest_stamp result }
     {
-        match self.told.owner {
+        match self.line.owner {
             Some(_) => Verdict::MustWait,
             None => self.unowned(),
         }
@@ -91,12 +78,12 @@ impl Encounter {
 
     /// The line is nobody's: a load goes on, a store too if the line has a slot.
     fn unowned(self) -> Verdict
-        ensures value { verdict_as result ≡ unowned self.access (told_as self.told) self.time }
+        ensures value { result ≡ unowned self.access self.line self.time }
         ensures bound { NextWithin highest_stamp result }
     {
         let (stamp, _) = self.time;
         match self.access {
-            Access::Write { .. } if !self.told.slot => Verdict::Lost {
+            Access::Write { .. } if !self.line.has_slot => Verdict::Gone {
                 cause: Cause::NoSlot,
                 next: stamp,
             },
@@ -106,13 +93,13 @@ impl Encounter {
 
     /// The stamp after a loss to a later time: past the line's write stamp, and for a store past its read mark too.
     fn past(self) -> u64
-        ensures value { result ≡ stamp_past self.access (told_as self.told) }
+        ensures value { result ≡ stamp_past self.access self.line }
         ensures bound { result ≤ highest_stamp }
     {
-        let (read, _) = self.told.read;
+        let (read, _) = self.line.read_mark;
         let latest = match self.access {
-            Access::Read => self.told.written,
-            Access::Write { .. } => self.told.written.max(read),
+            Access::Read => self.line.write_stamp,
+            Access::Write { .. } => self.line.write_stamp.max(read),
         };
         u64::from(latest) + 1
     }

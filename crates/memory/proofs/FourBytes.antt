@@ -3,7 +3,7 @@ use Rattle.std.proofs.Common.{◌≡◌, ℕ, ◌+◌, ◌*◌, ◌/◌, ◌%◌
 use mathlib.Core.Path.{fun_ext}
 use native.Mathlib.Nat.{div-div-eq-div-mul}
 use Rattle.std.proofs.lemmas.Bool.{eqb-true, eqb-false, eq-eqb, lt-ltb}
-use Rattle.memory.specs.Lines.{byte_lines, little_endian, odd_bytes, put}
+use Rattle.memory.specs.Lines.{byte_lines, little_endian, odd_bytes, lines_with}
 
 -- Four bytes written from a place on.
 abbrev pub four_set : List ℕ → ℕ → ℕ → ℕ → ℕ → ℕ → List ℕ
@@ -50,7 +50,7 @@ module _ (bytes : List ℕ) (line value : ℕ) (h : line < length bytes / 4) (v 
 
   at_line :
       (n : ℕ) (t : Bool) → eqb n line ≡ t
-      → byte_lines (line_set bytes line value) n ≡ put (byte_lines bytes) line value n
+      → byte_lines (line_set bytes line value) n ≡ lines_with (byte_lines bytes) line value n
   at_line n true e =
       let same = eqb-true n line e in
       let room : ltb line (length bytes / 4) ≡ true = lt-ltb line (length bytes / 4) h in
@@ -67,7 +67,7 @@ module _ (bytes : List ℕ) (line value : ℕ) (h : line < length bytes / 4) (v 
       (four : List ℕ)
       → four ≡ (value % 256) ∷ (value / 256 % 256) ∷ (value / 65536 % 256) ∷ (value / 16777216 % 256) ∷ []
       → byte_lines (four_set bytes (4 * line) (get_or four 0 0) (get_or four 1 0) (get_or four 2 0) (get_or four 3 0))
-      ≡ put (byte_lines bytes) line value
+      ≡ lines_with (byte_lines bytes) line value
   line_written four is = rw is (fun_ext (λ n. at_line n (eqb n line) refl))
 
 -- The odd bytes at the end lie past every line.

@@ -10,17 +10,17 @@ abbrev pub Lines : Type 0
 Lines = ℕ → Option ℕ
 
 -- Writing sets the value of that line alone, and of no line where the memory lacks it.
-abbrev pub put : Lines → ℕ → ℕ → Lines
-put lines line value n = cond (n == line) (option_map (λ _. value) (lines n)) (lines n)
+abbrev pub lines_with : Lines → ℕ → ℕ → Lines
+lines_with lines line value n = cond (n == line) (option_map (λ _. value) (lines n)) (lines n)
 
 -- The refusal of a line that the memory lacks.
 abbrev pub no_line : ℕ → Fault
 no_line line = fault_in_call NoSuchLine line
 
 -- The answer to a write, from the line's value before it.
-abbrev pub done : Option ℕ → Fault → Result (Unit {0}) Fault
-done None fault = Err fault
-done (Some value) fault = Ok tt
+abbrev pub write_result : Option ℕ → Fault → Result (Unit {0}) Fault
+write_result None fault = Err fault
+write_result (Some value) fault = Ok tt
 
 -- The caller's words: line 0 first.
 abbrev pub word_lines : List ℕ → Lines

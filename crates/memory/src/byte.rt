@@ -2,8 +2,8 @@
 ghost use Rattle.std.specs.Prelude.{[], ◌∷◌};
 ghost use Rattle.memory.specs.Lines.{byte_lines, odd_bytes};
 
-use crate::store::{Memory, no_such_line};
-use protocol::fault::Fault;
+use crate::memory::{Memory, no_such_line};
+use protocol::Fault;
 
 /// The caller's bytes, four to a line, least significant first. Odd bytes at the end are no line.
 #[derive(Drop)]

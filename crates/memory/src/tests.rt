@@ -1,12 +1,12 @@
 //! Worked reads and writes of each kind of memory.
 ghost use Rattle.std.specs.Prelude.{◌≡◌};
-ghost use Rattle.memory.specs.Lines.{word_lines, byte_lines, put};
+ghost use Rattle.memory.specs.Lines.{word_lines, byte_lines, lines_with};
 
 use crate::byte::ByteMemory;
+use crate::memory::Memory;
 use crate::split::SplitMemory;
-use crate::store::Memory;
 use crate::word::WordMemory;
-use protocol::fault::{Fault, Layer, Refusal};
+use protocol::{Fault, Layer, Refusal};
 use std::process::Abort;
 
 /// The refusal of a line, written out.
@@ -35,7 +35,7 @@ fn lacks<M: Memory, const N: usize>(rt: &impl Abort, memory: &mut M, lines: [u32
 
 /// What is known to whoever lends words: once the memory is gone, they hold what was written.
 fn stored_word(words: &mut [u32], line: u32, value: u32) -> Result<(), Fault>
-    ensures { word_lines words.new ≡ put (word_lines words.old) line value }
+    ensures { word_lines words.new ≡ lines_with (word_lines words.old) line value }
 {
     let mut memory = WordMemory { words };
     memory.write(line, value)
@@ -43,7 +43,7 @@ fn stored_word(words: &mut [u32], line: u32, value: u32) -> Result<(), Fault>
 
 /// The same for whoever lends bytes.
 fn stored_bytes(bytes: &mut [u8], line: u32, value: u32) -> Result<(), Fault>
-    ensures { byte_lines bytes.new ≡ put (byte_lines bytes.old) line value }
+    ensures { byte_lines bytes.new ≡ lines_with (byte_lines bytes.old) line value }
 {
     let mut memory = ByteMemory { bytes };
     memory.write(line, value)

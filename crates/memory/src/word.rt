@@ -2,8 +2,8 @@
 ghost use Rattle.std.specs.Prelude.{[], ◌∷◌};
 ghost use Rattle.memory.specs.Lines.{word_lines};
 
-use crate::store::{Memory, no_such_line};
-use protocol::fault::Fault;
+use crate::memory::{Memory, no_such_line};
+use protocol::Fault;
 
 /// The caller's words, line 0 first.
 #[derive(Drop)]

@@ -5,7 +5,7 @@ use Rattle.protocol.specs.declared.fault.Fault.{Fault}
 use Rattle.protocol.specs.declared.answer.Cause.{Cause}
 use Rattle.protocol.specs.declared.answer.Cause.TheVariants.{WrittenLater, ReadLater, QueueFull, NoSlot}
 use Rattle.protocol.specs.declared.answer.Outcome.{Outcome}
-use Rattle.protocol.specs.declared.answer.Outcome.TheVariants.{Value, Stored, Gone as Lost}
+use Rattle.protocol.specs.declared.answer.Outcome.TheVariants.{Value, Stored, Gone as OutcomeGone}
 use Rattle.protocol.specs.declared.answer.Answer.{Answer}
 use Rattle.protocol.specs.declared.answer.Answer.TheVariants.{Done, Val, Wait, Gone}
 
@@ -51,4 +51,4 @@ reply_text (Err fault) = refusal_text fault
 abbrev pub answer_of : Outcome → Answer
 answer_of (Value value) = Val value
 answer_of Stored = Done
-answer_of (Lost cause next) = Gone cause next
+answer_of (OutcomeGone cause next) = Gone cause next

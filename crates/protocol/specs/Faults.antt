@@ -28,8 +28,8 @@ refusal_number BadLetter = 14
 refusal_number TooManyRows = 15
 
 -- No two refusals have one number.
-abbrev pub NumbersTellApart : Type 0
-NumbersTellApart = (one other : Refusal) → refusal_number one ≡ refusal_number other → one ≡ other
+abbrev pub NumbersDiffer : Type 0
+NumbersDiffer = (one other : Refusal) → refusal_number one ≡ refusal_number other → one ≡ other
 
 -- Who tells that a call is refused: of a line that is lacking the memory, of all else the machine.
 abbrev pub call_layer : Refusal → Layer
@@ -58,5 +58,5 @@ abbrev pub fault_in_file : Refusal → ℕ → Fault
 fault_in_file why place = record { refusal = why; layer = File; number = place }
 
 -- The same refusal, told of another number.
-abbrev pub told_of : Fault → ℕ → Fault
-told_of fault number = record { refusal = fault.refusal; layer = fault.layer; number = number }
+abbrev pub fault_with_number : Fault → ℕ → Fault
+fault_with_number fault number = record { refusal = fault.refusal; layer = fault.layer; number = number }

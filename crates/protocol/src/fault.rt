@@ -1,7 +1,7 @@
 //! A refusal, with who tells it and the number that it is about.
 ghost use Rattle.std.specs.Prelude.{◌≡◌, Some};
 ghost use Rattle.protocol.specs.Answers.{refusal_text};
-ghost use Rattle.protocol.specs.Faults.{refusal_number, NumbersTellApart, call_layer, fault_in_call, fault_in_file, told_of};
+ghost use Rattle.protocol.specs.Faults.{refusal_number, NumbersDiffer, call_layer, fault_in_call, fault_in_file, fault_with_number};
 
 use std::fmt;
 
@@ -61,7 +61,7 @@ impl Refusal {
     /// The number by which listings name the refusal.
     pub fn number(self) -> u8
         ensures answer { result ≡ refusal_number self }
-        ensures apart { NumbersTellApart }
+        ensures apart { NumbersDiffer }
     {
         self as u8
     }
@@ -112,8 +112,8 @@ impl Fault {
     }
 
     /// The same refusal, told of the number that the caller asked for.
-    pub fn told_of(self, number: u64) -> Fault
-        ensures { result ≡ told_of self number }
+    pub fn with_number(self, number: u64) -> Fault
+        ensures { result ≡ fault_with_number self number }
     {
         Fault { number, ..self }
     }

@@ -55,11 +55,11 @@ fn the_memory_tells_of_lines_alone(rt: HostRuntime) {
 fn a_refusal_told_of_another_number(rt: HostRuntime) {
     let lacking = Fault::in_call(Refusal::NoSuchLine, 3);
     assert_eq!(rt;
-        lacking.told_of(u64::MAX),
+        lacking.with_number(u64::MAX),
         fault(Refusal::NoSuchLine, Layer::Memory, u64::MAX)
     );
     assert_eq!(rt;
-        Fault::in_file(Refusal::CutShort, 8).told_of(0),
+        Fault::in_file(Refusal::CutShort, 8).with_number(0),
         fault(Refusal::CutShort, Layer::File, 0)
     );
 }

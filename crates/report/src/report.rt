@@ -2,10 +2,10 @@
 ghost use Rattle.std.specs.Prelude.{◌≡◌, ◌↔◌, IfOk, IsTrue};
 ghost use Rattle.listing.specs.Listing.{listing_text};
 
+use crate::compare::{Comparison, find_difference};
 use crate::shown::{add_lines_under, add_shown};
-use compare::compare::{Comparison, find_difference};
-use explain::explain::explain;
-use listing::listing::list;
+use explain::explain;
+use listing::list;
 use std::alloc::{AllocError, Global};
 
 /// What is said of a listing, and whether it matches.

@@ -3,8 +3,8 @@ use Rattle.std.proofs.Common.{◌≡◌, ℕ, ◌+◌, ◌<◌, ◌≤◌, Bool,
 use Rattle.std.proofs.lemmas.Bool.{both_ways, eqb-true, eq-eqb, cases_eq, ltb-true, lt-ltb, le-leb, and_from, or_parts, not_from_false}
 use Rattle.std.proofs.lemmas.Bool.Decides.{nat_tests}
 use Rattle.protocol.specs.Limits.{line_limit, warp_limit, last_stamp}
-use Rattle.book.specs.Meaning.{Kind, Keeps, reserved, can_note, can_reserve, can_add, can_release, noted, taken, added}
-use Rattle.book.specs.Meaning.{released}
+use Rattle.book.specs.Meaning.{Kind, Keeps, is_reserved, can_note, can_reserve, can_add, can_release, state_after_note, state_after_reserve, state_after_add}
+use Rattle.book.specs.Meaning.{state_after_release}
 use Rattle.book.specs.Time.{Time, earlier}
 use Rattle.rules.specs.Lists.{has}
 use Rattle.rules.proofs.History.{mark_rises, Grown, Taken}
@@ -27,7 +27,7 @@ module _ (k : Kind) (keeps : Keeps k) where
 
   pub after_note :
       (s : k.State) → k.Good s → (line t w : ℕ) → line < line_limit → t ≤ last_stamp → w < 32
-      → Noted s (noted k s line (t, w)) line t w
+      → Noted s (state_after_note k s line (t, w)) line t w
   after_note s good line t w a b c =
       let can = sound line t w s a b c in
       let n = keeps.notes s good line (t, w) can in
@@ -52,7 +52,7 @@ module _ (k : Kind) (keeps : Keeps k) where
     pub counts : (at : ℕ) → at < line_limit → (at ≡ line → ⊥) → k.stores s' at ≡ k.stores s at
 
   pub after_add :
-      (s : k.State) → k.Good s → (line : ℕ) → can_add k s line ≡ true → Added s (added k s line) line
+      (s : k.State) → k.Good s → (line : ℕ) → can_add k s line ≡ true → Added s (state_after_add k s line) line
   after_add s good line can =
       let n = keeps.adds s good line can in
       subst (λ b. Added s (cond b (k.add s line) s) line) (sym can)
@@ -74,10 +74,10 @@ module _ (k : Kind) (keeps : Keeps k) where
   -- A line without an owner is not reserved.
   not_reserved :
       (s : k.State) → k.Good s → (line : ℕ) → line < line_limit → k.owner s line ≡ None
-      → reserved k s line ≡ false
-  not_reserved s good line l none = step (reserved k s line) refl
+      → is_reserved k s line ≡ false
+  not_reserved s good line l none = step (is_reserved k s line) refl
     where
-      step : (b : Bool) → reserved k s line ≡ b → b ≡ false
+      step : (b : Bool) → is_reserved k s line ≡ b → b ≡ false
       step true e =
           let o = (keeps.tells s good line l).owned e in
           let p = o.1 in
@@ -94,12 +94,12 @@ module _ (k : Kind) (keeps : Keeps k) where
   pub after_take :
       (s : k.State) → k.Good s → (line t w : ℕ) → line < line_limit → t ≤ last_stamp → w < 32
       → k.owner s line ≡ None → k.has_slot s line ≡ true → k.write_stamp s line ≤ t
-      → earlier (t, w) (k.read_mark s line) ≡ false → Took s (taken k s line (t, w)) line t w
+      → earlier (t, w) (k.read_mark s line) ≡ false → Took s (state_after_reserve k s line (t, w)) line t w
   after_take s good line t w a b c none slot below unread =
       let can : can_reserve k s line (t, w) ≡ true =
-      and_from (can_note k s line (t, w)) (not (reserved k s line) && k.has_slot s line) (sound line t w s a b c)
-      (and_from (not (reserved k s line)) (k.has_slot s line)
-      (not_from_false (reserved k s line) (not_reserved s good line a none)) slot)
+      and_from (can_note k s line (t, w)) (not (is_reserved k s line) && k.has_slot s line) (sound line t w s a b c)
+      (and_from (not (is_reserved k s line)) (k.has_slot s line)
+      (not_from_false (is_reserved k s line) (not_reserved s good line a none)) slot)
       in
       let n = keeps.reserves s good line (t, w) can in
       subst (λ b. Took s (cond b (k.reserve s line (t, w)) s) line t w) (sym can)
@@ -132,7 +132,7 @@ module _ (k : Kind) (keeps : Keeps k) where
     pub counts : (line : ℕ) → line < line_limit → has line lines ≡ false → k.stores s' line ≡ k.stores s line
     pub still_none : (line : ℕ) → line < line_limit → k.owner s line ≡ None → k.owner s' line ≡ None
 
-  after_one : (s : k.State) → k.Good s → (line : ℕ) → Freed s (released k s line) (line ∷ [])
+  after_one : (s : k.State) → k.Good s → (line : ℕ) → Freed s (state_after_release k s line) (line ∷ [])
   after_one s good line = step (can_release k s line) refl
     where
       step : (b : Bool) → can_release k s line ≡ b → Freed s (cond b (k.release s line) s) (line ∷ [])
@@ -187,7 +187,7 @@ module _ (k : Kind) (keeps : Keeps k) where
           or_false true r = refl
           or_false false r = r
 
-  pub after_release : (s : k.State) → k.Good s → (lines : List ℕ) → Freed s (fold (released k) s lines) lines
+  pub after_release : (s : k.State) → k.Good s → (lines : List ℕ) → Freed s (fold (state_after_release k) s lines) lines
   after_release s good [] =
       record {
         good = good;
@@ -200,14 +200,14 @@ module _ (k : Kind) (keeps : Keeps k) where
       }
   after_release s good (line ∷ lines) =
       let one = after_one s good line in
-      let rest = after_release (released k s line) one.good lines in
+      let rest = after_release (state_after_release k s line) one.good lines in
       record {
         good = rest.good;
         stamps = λ at l. let a = one.stamps at l in let b = rest.stamps at l in omega arith;
         marks =
             λ at l.
-            mark_rises (k.read_mark (released k s line) at)
-            (k.read_mark (fold (released k) (released k s line) lines) at) (k.read_mark s at)
+            mark_rises (k.read_mark (state_after_release k s line) at)
+            (k.read_mark (fold (state_after_release k) (state_after_release k s line) lines) at) (k.read_mark s at)
             (one.marks at l) (rest.marks at l);
         released_ones = λ at l h. freed at l one rest (eqb line at) refl h;
         others =
@@ -222,9 +222,9 @@ module _ (k : Kind) (keeps : Keeps k) where
       }
     where
       freed :
-          (at : ℕ) → at < line_limit → Freed s (released k s line) (line ∷ [])
-          → Freed (released k s line) (fold (released k) (released k s line) lines) lines
+          (at : ℕ) → at < line_limit → Freed s (state_after_release k s line) (line ∷ [])
+          → Freed (state_after_release k s line) (fold (state_after_release k) (state_after_release k s line) lines) lines
           → (b : Bool) → eqb line at ≡ b → (b || has at lines) ≡ true
-          → k.owner (fold (released k) (released k s line) lines) at ≡ None
+          → k.owner (fold (state_after_release k) (state_after_release k s line) lines) at ≡ None
       freed at l one rest true e h = rest.still_none at l (one.released_ones at l (ap (λ b. b || false) e))
       freed at l one rest false e h = rest.released_ones at l h

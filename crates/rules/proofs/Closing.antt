@@ -6,10 +6,10 @@ use Rattle.std.specs.Option.{option_map}
 use Rattle.protocol.specs.Limits.{line_limit}
 use Rattle.memory.specs.Lines.{Lines}
 use Rattle.book.specs.Meaning.{Kind}
-use Rattle.rules.specs.Lists.{has, last_of, upto}
-use Rattle.rules.specs.Steps.{written}
-use Rattle.rules.specs.Transactions.{Found, own, by, at_first, Transaction, no_transaction, own_store, writes}
-use Rattle.rules.specs.Transactions.{stores_of, named, writers, last_found}
+use Rattle.rules.specs.Lists.{has, last_of, numbers_below}
+use Rattle.rules.specs.Steps.{lines_after_stores}
+use Rattle.rules.specs.Transactions.{Found, own, by, at_first, Transaction, no_transaction, last_own_store, is_written}
+use Rattle.rules.specs.Transactions.{transaction_stores, transaction_named, writers, last_found}
 use Rattle.rules.proofs.ListFacts.{kept_append, has_upto, has_of_kept, last_push, last_stands}
 use Rattle.rules.proofs.Replay.{over, written_at, found_value, writer}
 use Rattle.rules.proofs.Serial.{key, key_of, Earlier, seen, stamp_at, key_at, Names, Right, writer_below}
@@ -39,16 +39,16 @@ module _ (first : Lines) (txs : List Transaction) (tx : Transaction) where
   length_more : length more ≡ suc n
   length_more = let e = length_push txs tx in omega arith
 
-  pub named_old : (j : ℕ) → j < n → named more j ≡ named txs j
+  pub named_old : (j : ℕ) → j < n → transaction_named more j ≡ transaction_named txs j
   named_old j l = get_or_append_left txs (tx ∷ []) no_transaction j l
 
-  pub named_new : named more n ≡ tx
+  pub named_new : transaction_named more n ≡ tx
   named_new = get_or_at txs tx [] no_transaction n refl
 
   -- A writer is an old one or the new one.
   pub writer_cases :
       (line j : ℕ) → writer first more line j ≡ true
-      → ((j < n) × (writer first txs line j ≡ true)) ⊎ ((j ≡ n) × (writes tx.deeds line ≡ true))
+      → ((j < n) × (writer first txs line j ≡ true)) ⊎ ((j ≡ n) × (is_written tx.actions line ≡ true))
   writer_cases line j w = step (cases_lt j n)
     where
       low : j < suc n
@@ -56,36 +56,36 @@ module _ (first : Lines) (txs : List Transaction) (tx : Transaction) where
 
       step :
           (j < n) ⊎ (n ≤ j)
-          → ((j < n) × (writer first txs line j ≡ true)) ⊎ ((j ≡ n) × (writes tx.deeds line ≡ true))
-      step (inl l) = inl (l, ap (λ (t : Transaction). writes t.deeds line) (sym (named_old j l)) ∙ w)
+          → ((j < n) × (writer first txs line j ≡ true)) ⊎ ((j ≡ n) × (is_written tx.actions line ≡ true))
+      step (inl l) = inl (l, ap (λ (t : Transaction). is_written t.actions line) (sym (named_old j l)) ∙ w)
       step (inr g) =
           let e : j ≡ n = omega (arith, low) in
           inr (
             e,
-            ap (λ (t : Transaction). writes t.deeds line) (sym named_new)
+            ap (λ (t : Transaction). is_written t.actions line) (sym named_new)
                 ∙ ap (λ i. writer first more line i) (sym e) ∙ w,
           )
 
   pub writer_old : (line j : ℕ) → writer first txs line j ≡ true → writer first more line j ≡ true
   writer_old line j w =
-      ap (λ (t : Transaction). writes t.deeds line) (named_old j (writer_below first txs line j w)) ∙ w
+      ap (λ (t : Transaction). is_written t.actions line) (named_old j (writer_below first txs line j w)) ∙ w
 
   stamp_old : (j : ℕ) → j < n → stamp_at first more j ≡ stamp_at first txs j
   stamp_old j l = ap (λ (t : Transaction). t.stamp) (named_old j l)
 
-  writers_more : (line : ℕ) → writers more line ≡ writers txs line ++ cond (writes tx.deeds line) (n ∷ []) []
+  writers_more : (line : ℕ) → writers more line ≡ writers txs line ++ cond (is_written tx.actions line) (n ∷ []) []
   writers_more line =
-      ap (λ z. filter (writer first more line) (upto z)) length_more
-      ∙ kept_append (writer first more line) (upto n) (n ∷ [])
+      ap (λ z. filter (writer first more line) (numbers_below z)) length_more
+      ∙ kept_append (writer first more line) (numbers_below n) (n ∷ [])
       ∙ ap (λ l. l ++ filter (writer first more line) (n ∷ [])) old
       ∙ ap (λ b. writers txs line ++ cond b (n ∷ []) [])
-      (ap (λ (t : Transaction). writes t.deeds line) named_new)
+      (ap (λ (t : Transaction). is_written t.actions line) named_new)
     where
-      old : filter (writer first more line) (upto n) ≡ writers txs line
+      old : filter (writer first more line) (numbers_below n) ≡ writers txs line
       old =
-          kept_same (writer first more line) (writer first txs line) (upto n)
+          kept_same (writer first more line) (writer first txs line) (numbers_below n)
           (λ z h.
-          ap (λ (t : Transaction). writes t.deeds line)
+          ap (λ (t : Transaction). is_written t.actions line)
           (named_old z (ltb-true z n (sym (has_upto z n) ∙ h))))
 
   -- What was found is still what it was.
@@ -94,7 +94,7 @@ module _ (first : Lines) (txs : List Transaction) (tx : Transaction) where
       → found_value first more line f ≡ found_value first txs line f
   found_old line own bad = absurd bad
   found_old line (by j) w =
-      ap (λ (t : Transaction). own_store t.deeds line) (named_old j (writer_below first txs line j w))
+      ap (λ (t : Transaction). last_own_store t.actions line) (named_old j (writer_below first txs line j w))
   found_old line at_first u = refl
 
   pub names_last : (line : ℕ) → Names first txs (last_found (last_of (writers txs line))) line
@@ -102,7 +102,7 @@ module _ (first : Lines) (txs : List Transaction) (tx : Transaction) where
     where
       step : (o : Option ℕ) → last_of (writers txs line) ≡ o → Names first txs (last_found o) line
       step None e = tt
-      step (Some j) e = (has_of_kept (writer first txs line) j (upto n) (last_stands (writers txs line) j e)).1
+      step (Some j) e = (has_of_kept (writer first txs line) j (numbers_below n) (last_stands (writers txs line) j e)).1
 
   seen_low : (line : ℕ) (f : Found) → Names first txs f line → seen f ≤ n
   seen_low line own bad = absurd bad
@@ -113,7 +113,7 @@ module _ (first : Lines) (txs : List Transaction) (tx : Transaction) where
   pub right_more :
       (place place' stamp warp line v : ℕ) (f : Found) → Right first txs place stamp warp line v f
       → (place' ≡ place) ⊎ ((place ≡ n) × (place' ≡ suc n))
-      → (writes tx.deeds line ≡ true → (n ≡ place' → ⊥) → Earlier (key stamp warp) place' (key_of tx) n)
+      → (is_written tx.actions line ≡ true → (n ≡ place' → ⊥) → Earlier (key stamp warp) place' (key_of tx) n)
       → Right first more place' stamp warp line v f
   right_more place place' stamp warp line v f r moved newer =
       record {
@@ -130,14 +130,14 @@ module _ (first : Lines) (txs : List Transaction) (tx : Transaction) where
 
       before_now :
           (j : ℕ) → j < seen f
-          → ((j < n) × (writer first txs line j ≡ true)) ⊎ ((j ≡ n) × (writes tx.deeds line ≡ true))
+          → ((j < n) × (writer first txs line j ≡ true)) ⊎ ((j ≡ n) × (is_written tx.actions line ≡ true))
           → stamp_at first more j < stamp
       before_now j l (inl p) = let a = r.before j p.1 l in let b = stamp_old j p.0 in omega arith
       before_now j l (inr p) = let a = seen_low line f r.names in let e = p.0 in absurd (omega arith)
 
       after_now :
           (j : ℕ) → seen f ≤ j → (j ≡ place' → ⊥)
-          → ((j < n) × (writer first txs line j ≡ true)) ⊎ ((j ≡ n) × (writes tx.deeds line ≡ true))
+          → ((j < n) × (writer first txs line j ≡ true)) ⊎ ((j ≡ n) × (is_written tx.actions line ≡ true))
           → Earlier (key stamp warp) place' (key_at first more j) j
       after_now j l d (inl p) =
           let old = r.after j p.1 l (apart moved) in
@@ -172,8 +172,8 @@ module _
 
     pub core_more :
         Core k first txs H lines s → tx.warp < 32
-        → ((line : ℕ) → writes tx.deeds line ≡ true → Ready line)
-        → Core k first (more first txs tx) H (written lines (stores_of tx.deeds)) s
+        → ((line : ℕ) → is_written tx.actions line ≡ true → Ready line)
+        → Core k first (more first txs tx) H (lines_after_stores lines (transaction_stores tx.actions)) s
     core_more c low ready =
         record {
           sorted =
@@ -183,7 +183,7 @@ module _
           line_low = λ line i w. low_now line i (writer_cases first txs tx line i w);
           there = λ line i w. there_now line i (writer_cases first txs tx line i w);
           passes = λ line i w. passes_now line i (writer_cases first txs tx line i w);
-          last = λ line. last_now line (own_store tx.deeds line) refl;
+          last = λ line. last_now line (last_own_store tx.actions line) refl;
           same_lines = λ line. still_there line ∙ c.same_lines line;
           holder = holder_now;
           owner_holds = c.owner_holds;
@@ -192,7 +192,7 @@ module _
         New : ℕ → ℕ → Type 0
         New line j =
             ((j < length txs) × (writer first txs line j ≡ true))
-            ⊎ ((j ≡ length txs) × (writes tx.deeds line ≡ true))
+            ⊎ ((j ≡ length txs) × (is_written tx.actions line ≡ true))
 
         stamp_new : (j : ℕ) → j ≡ length txs → stamp_at first (more first txs tx) j ≡ tx.stamp
         stamp_new j e =
@@ -215,15 +215,15 @@ module _
         sorted_now line i j l (inr p) (inl q) = let a = p.0 in let b = q.0 in absurd (omega arith)
         sorted_now line i j l (inr p) (inr q) = let a = p.0 in let b = q.0 in absurd (omega arith)
 
-        warps_now : (i : ℕ) → i < length (more first txs tx) → (named (more first txs tx) i).warp < 32
+        warps_now : (i : ℕ) → i < length (more first txs tx) → (transaction_named (more first txs tx) i).warp < 32
         warps_now i l = step (cases_lt i (length txs))
           where
-            step : (i < length txs) ⊎ (length txs ≤ i) → (named (more first txs tx) i).warp < 32
+            step : (i < length txs) ⊎ (length txs ≤ i) → (transaction_named (more first txs tx) i).warp < 32
             step (inl p) = subst (λ (t : Transaction). t.warp < 32) (sym (named_old first txs tx i p)) (c.warps i p)
             step (inr p) =
                 let e : i ≡ length txs = omega (arith, length_more first txs tx) in
                 subst (λ (t : Transaction). t.warp < 32)
-                (sym (ap (named (more first txs tx)) e ∙ named_new first txs tx)) low
+                (sym (ap (transaction_named (more first txs tx)) e ∙ named_new first txs tx)) low
 
         low_now : (line i : ℕ) → New line i → line < line_limit
         low_now line i (inl p) = c.line_low line i p.1
@@ -244,30 +244,30 @@ module _
         still (Some v) None = refl
         still (Some v) (Some u) = refl
 
-        still_there : (line : ℕ) → is_some (written lines (stores_of tx.deeds) line) ≡ is_some (lines line)
+        still_there : (line : ℕ) → is_some (lines_after_stores lines (transaction_stores tx.actions) line) ≡ is_some (lines line)
         still_there line =
-            ap is_some (written_at lines tx.deeds line) ∙ still (own_store tx.deeds line) (lines line)
+            ap is_some (written_at lines tx.actions line) ∙ still (last_own_store tx.actions line) (lines line)
 
         put_over : (v : ℕ) (p : Option ℕ) → is_some p ≡ true → option_map (λ _. v) p ≡ Some v
         put_over v None h = absurd (both_ways false refl h)
         put_over v (Some u) h = refl
 
         last_now :
-            (line : ℕ) (o : Option ℕ) → own_store tx.deeds line ≡ o
-            → written lines (stores_of tx.deeds) line
+            (line : ℕ) (o : Option ℕ) → last_own_store tx.actions line ≡ o
+            → lines_after_stores lines (transaction_stores tx.actions) line
             ≡ found_value first (more first txs tx) line (last_found (last_of (writers (more first txs tx) line)))
         last_now line None e =
-            written_at lines tx.deeds line ∙ ap (λ p. over p (lines line)) e ∙ c.last line
+            written_at lines tx.actions line ∙ ap (λ p. over p (lines line)) e ∙ c.last line
             ∙ sym (found_old first txs tx line (last_found (last_of (writers txs line))) (names_last first txs tx line))
             ∙ ap (λ ws. found_value first (more first txs tx) line (last_found (last_of ws)))
             (sym
             (writers_more first txs tx line ∙ ap (λ p. writers txs line ++ cond (is_some p) (length txs ∷ []) []) e
             ∙ append-nil (writers txs line)))
         last_now line (Some v) e =
-            written_at lines tx.deeds line ∙ ap (λ p. over p (lines line)) e
+            written_at lines tx.actions line ∙ ap (λ p. over p (lines line)) e
             ∙ put_over v (lines line) (ready line (ap is_some e)).there
             ∙ sym e
-            ∙ ap (λ (t : Transaction). own_store t.deeds line) (sym (named_new first txs tx))
+            ∙ ap (λ (t : Transaction). last_own_store t.actions line) (sym (named_new first txs tx))
             ∙ ap (λ o. found_value first (more first txs tx) line (last_found o))
             (sym
             (ap last_of
@@ -276,7 +276,7 @@ module _
 
         holder_now :
             (h line t : ℕ) → H h line ≡ Some t
-            → Holder k first (more first txs tx) (written lines (stores_of tx.deeds)) s h line t
+            → Holder k first (more first txs tx) (lines_after_stores lines (transaction_stores tx.actions)) s h line t
         holder_now h line t e =
             let old = c.holder h line t e in
             record {
@@ -297,7 +297,7 @@ module _
     pub read_more :
         (place place' stamp warp line v : ℕ) (f : Found) → ReadNow k first txs H s place stamp warp line v f
         → (place' ≡ place) ⊎ ((place ≡ length txs) × (place' ≡ suc (length txs)))
-        → (writes tx.deeds line ≡ true → (length txs ≡ place' → ⊥)
+        → (is_written tx.actions line ≡ true → (length txs ≡ place' → ⊥)
         → Earlier (key stamp warp) place' (key_of tx) (length txs))
         → ReadNow k first (more first txs tx) H s place' stamp warp line v f
     read_more place place' stamp warp line v f r moved newer =

@@ -3,13 +3,13 @@ use Rattle.std.proofs.Common.{◌≡◌, ℕ, zero, suc, ◌+◌, ◌<◌, Bool,
 use Rattle.std.proofs.lemmas.Bool.{both_ways, eqb-true, cases_Bool, lt-ltb, or_cases}
 use Rattle.std.proofs.lemmas.Bool.Decides.{nat_tests}
 use Rattle.book.specs.Meaning.{Kind}
-use Rattle.rules.specs.Lists.{has, upto, occurrences, stands_before}
-use Rattle.rules.specs.Making.{make}
+use Rattle.rules.specs.Lists.{has, numbers_below, occurrences, is_before}
+use Rattle.rules.specs.Making.{new_machine}
 use Rattle.rules.specs.Runs.{run}
-use Rattle.rules.specs.Transactions.{named, Transaction}
+use Rattle.rules.specs.Transactions.{transaction_named, Transaction}
 use Rattle.rules.specs.Ledger.{ledger_of}
 use Rattle.rules.specs.Account.{EachOnce}
-use Rattle.rules.specs.LogicalTime.{before_in_time, InLogicalOrder}
+use Rattle.rules.specs.LogicalTime.{is_earlier, IsInLogicalOrder}
 use Rattle.rules.specs.Laws.{LawOfAccounts, LawOfExplanation}
 use Rattle.rules.proofs.ListFacts.{has_count, count_append, has_upto}
 
@@ -56,10 +56,10 @@ has_inserted before n z xs =
     has_count z (inserted before n xs) ∙ ap (ltb 0) (count_inserted before n z xs)
     ∙ sym (has_count z (n ∷ xs))
 
-count_upto : (z n : ℕ) → occurrences z (upto n) ≡ cond (ltb z n) 1 0
+count_upto : (z n : ℕ) → occurrences z (numbers_below n) ≡ cond (ltb z n) 1 0
 count_upto z zero = grind (arith, nat_tests)
 count_upto z (suc n) =
-    count_append z (upto n) (n ∷ []) ∙ ap (λ c. c + (cond (eqb n z) 1 0 + 0)) (count_upto z n)
+    count_append z (numbers_below n) (n ∷ []) ∙ ap (λ c. c + (cond (eqb n z) 1 0 + 0)) (count_upto z n)
     ∙ one_more z n
   where
     one_more : (z n : ℕ) → cond (ltb z n) 1 0 + (cond (eqb n z) 1 0 + 0) ≡ cond (ltb z (suc n)) 1 0
@@ -112,7 +112,7 @@ module _ (before : ℕ → ℕ → Bool) (strict : Strict before) where
   -- Of two numbers the one that comes before stands before.
   stands :
       (xs : List ℕ) → InOrder xs → (a b : ℕ) → has a xs ≡ true → has b xs ≡ true → before a b ≡ true
-      → stands_before xs a b ≡ true
+      → is_before xs a b ≡ true
   unfolding InOrder
   stands [] h a b p q first = absurd (both_ways false refl p)
   stands (x ∷ xs) h a b p q first =
@@ -124,8 +124,8 @@ module _ (before : ℕ → ℕ → Bool) (strict : Strict before) where
 
       step :
           (e : Bool) → eqb x a ≡ e → (e || has a xs) ≡ true → (eqb x b ≡ true) ⊎ (has b xs ≡ true)
-          → (has a xs ≡ true → has b xs ≡ true → stands_before xs a b ≡ true)
-          → cond e (has b xs) (stands_before xs a b) ≡ true
+          → (has a xs ≡ true → has b xs ≡ true → is_before xs a b ≡ true)
+          → cond e (has b xs) (is_before xs a b) ≡ true
       step true e k (inl r) rest = absurd (same (eqb-true x a e) (eqb-true x b r))
       step true e k (inr r) rest = r
       step false e k (inl r) rest =
@@ -146,44 +146,44 @@ key_onward :
 unfolding key_before
 key_onward s w a t v b u x c p q = grind (arith, nat_tests)
 
-time_is_strict : (txs : List Transaction) → Strict (before_in_time txs)
+time_is_strict : (txs : List Transaction) → Strict (is_earlier txs)
 unfolding key_before
 time_is_strict txs =
     record {
-      never_itself = λ a. key_itself (named txs a).stamp (named txs a).warp a;
+      never_itself = λ a. key_itself (transaction_named txs a).stamp (transaction_named txs a).warp a;
       onward =
           λ a b c.
-          key_onward (named txs a).stamp (named txs a).warp a (named txs b).stamp (named txs b).warp b
-          (named txs c).stamp (named txs c).warp c;
+          key_onward (transaction_named txs a).stamp (transaction_named txs a).warp a (transaction_named txs b).stamp (transaction_named txs b).warp b
+          (transaction_named txs c).stamp (transaction_named txs c).warp c;
     }
 
 -- The names in the order of logical time.
 in_time : List Transaction → List ℕ
-in_time txs = sorted (before_in_time txs) (upto (length txs))
+in_time txs = sorted (is_earlier txs) (numbers_below (length txs))
 
 pub some_logical_order :
-    (txs : List Transaction) → (order : List ℕ) × EachOnce order (length txs) × InLogicalOrder txs order
+    (txs : List Transaction) → (order : List ℕ) × EachOnce order (length txs) × IsInLogicalOrder txs order
 unfolding in_time
 some_logical_order txs = (
   in_time txs,
   once,
   λ a b p q clash first.
-      stands (before_in_time txs) (time_is_strict txs) (in_time txs)
-      (sorted_in_order (before_in_time txs) (time_is_strict txs) (upto (length txs))) a b
+      stands (is_earlier txs) (time_is_strict txs) (in_time txs)
+      (sorted_in_order (is_earlier txs) (time_is_strict txs) (numbers_below (length txs))) a b
       (stands_there a p) (stands_there b q) first,
 )
   where
     once : EachOnce (in_time txs) (length txs)
     once name =
-        count_sorted (before_in_time txs) name (upto (length txs)) ∙ count_upto name (length txs)
+        count_sorted (is_earlier txs) name (numbers_below (length txs)) ∙ count_upto name (length txs)
 
     stands_there : (a : ℕ) → a < length txs → has a (in_time txs) ≡ true
     stands_there a p =
-        has_sorted (before_in_time txs) a (upto (length txs)) ∙ has_upto a (length txs) ∙ lt-ltb a (length txs) p
+        has_sorted (is_earlier txs) a (numbers_below (length txs)) ∙ has_upto a (length txs) ∙ lt-ltb a (length txs) p
 
 -- So the law of accounts gives an order that explains the run.
 pub law_of_explanation : (k : Kind) → LawOfAccounts k → LawOfExplanation k
 law_of_explanation k accounts keeps policy lines book good stamps calls =
-    let r = run policy (make k lines book stamps) calls in
+    let r = run policy (new_machine k lines book stamps) calls in
     let found = some_logical_order (ledger_of r.events).committed in
     (found.0, found.1, (accounts keeps policy lines book good stamps calls found.0 found.1).1 found.2)

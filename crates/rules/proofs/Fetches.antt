@@ -10,7 +10,7 @@ use Rattle.protocol.specs.declared.answer.Answer.{Answer}
 use Rattle.protocol.specs.declared.answer.Answer.TheVariants.{Wait}
 use Rattle.protocol.specs.declared.answer.Cause.{Cause}
 use Rattle.protocol.specs.declared.answer.Outcome.{Outcome}
-use Rattle.protocol.specs.declared.answer.Outcome.TheVariants.{Value, Stored, Gone as Lost}
+use Rattle.protocol.specs.declared.answer.Outcome.TheVariants.{Value, Stored, Gone as OutcomeGone}
 use Rattle.protocol.specs.declared.call.Call.{Call}
 use Rattle.protocol.specs.declared.call.Op.{Op}
 use Rattle.protocol.specs.declared.call.Op.TheVariants.{Begin, Load, Store, Commit, Drop, Fetch}
@@ -21,23 +21,25 @@ use Rattle.rules.specs.declared.state.Access.{Access}
 use Rattle.rules.specs.declared.state.Access.TheVariants.{Read, Write}
 use Rattle.rules.specs.declared.state.Phase.{Phase}
 use Rattle.rules.specs.declared.state.Phase.TheVariants.{Idle, Open, Waiting, Settled}
-use Rattle.rules.specs.Logs.{entry, logged_lines}
-use Rattle.rules.specs.State.{WarpRow, Machine, Settling, idle_at, open_at, is_waiting, in_phase, warp_row_at, warp_row_of}
+use Rattle.rules.specs.Logs.{log_entry, logged_lines}
+use Rattle.rules.specs.State.{WarpRow, Machine, Settling, idle_row, open_row, is_waiting, row_in_phase, warp_row_at, warp_row_of}
 use Rattle.rules.specs.State.{time_of, with_warp_row}
-use Rattle.rules.specs.Access.{Verdict, told, retried, own_line, lost, must_wait, go_on}
-use Rattle.rules.specs.Queue.{Policy, request_of, access_at, pending}
-use Rattle.rules.specs.Refusals.{phase_refuses, faulty, fault_of}
-use Rattle.rules.specs.Serving.{serves, serves_own}
-use Rattle.rules.specs.Ending.{Woken, settling, withdraws, settles, tried, retries, tries, wakes, lets_go}
-use Rattle.rules.specs.Ending.{gives_up, ends}
-use Rattle.rules.specs.Steps.{Step, waits, accessed, verdict_at, fetched, fetches, granted, checked, step}
-use Rattle.rules.specs.Steps.{writes_back}
-use Rattle.rules.specs.Making.{make, first_warp_rows, making_fault}
-use Rattle.rules.specs.Runs.{Event, Run, event_of, goes_on, settlings, last_settling}
-use Rattle.rules.specs.Transactions.{Deed, loaded, stored, load_deed, Transaction}
-use Rattle.rules.specs.Ledger.{Ledger, doing, load_found, with_current, joins, begins, ends_here, commits, says, comes_as, settles_one}
-use Rattle.rules.specs.Ledger.{hears, new_ledger, ledger_of}
-use Rattle.rules.specs.Laws.{Joined, FetchTold, FetchesTell, LawOfFetches}
+use Rattle.rules.specs.declared.verdict.Verdict.{Verdict}
+use Rattle.rules.specs.declared.verdict.Verdict.TheVariants.{OwnLine, Gone as VerdictGone, MustWait, GoOn}
+use Rattle.rules.specs.Access.{line_state, retried}
+use Rattle.rules.specs.Queue.{Policy, request_of, access_at, pending_access}
+use Rattle.rules.specs.Refusals.{phase_refuses, refusal_fault, fault_of}
+use Rattle.rules.specs.Serving.{served_on_free_line, served_on_own_line}
+use Rattle.rules.specs.Ending.{AfterTries, settling, after_withdrawal, after_settling, after_try, after_turn_with, after_turn, after_turns, without_lines}
+use Rattle.rules.specs.Ending.{after_giving_up, after_end}
+use Rattle.rules.specs.Steps.{Step, with_request_queued, step_by_verdict, verdict_at, fetched_step, fetch_step, accepted_step, checked_step, step}
+use Rattle.rules.specs.Steps.{with_log_written}
+use Rattle.rules.specs.Making.{new_machine, first_warp_rows, making_fault}
+use Rattle.rules.specs.Runs.{Event, Run, event_of, run_with_call, settlings, last_settling}
+use Rattle.rules.specs.Transactions.{Action, loaded, stored, load_action, Transaction}
+use Rattle.rules.specs.Ledger.{Ledger, with_action, load_found, with_current, with_joined, with_begun, without_current, with_committed, ledger_after_reply, ledger_after_outcome, ledger_after_settling}
+use Rattle.rules.specs.Ledger.{ledger_after_event, new_ledger, ledger_of}
+use Rattle.rules.specs.Laws.{HasJoined, FetchReturns, FetchesReturn, LawOfFetches}
 use Rattle.rules.proofs.ListFacts.{folded_append}
 
 -- A row that is put among others, if it has a place there, and what stays.
@@ -46,10 +48,10 @@ put_phase :
     → P (warp_row_at (set rows w r) w).phase
 put_phase rows w r P none here =
     ⊎_elim
-    (λ low. subst (λ (x : WarpRow). P x.phase) (sym (get_or-set_same rows w r (idle_at 0) low)) here)
+    (λ low. subst (λ (x : WarpRow). P x.phase) (sym (get_or-set_same rows w r (idle_row 0) low)) here)
     (λ high.
     subst (λ (x : WarpRow). P x.phase)
-    (sym (get_or_past (set rows w r) w (idle_at 0) (past high))) none)
+    (sym (get_or_past (set rows w r) w (idle_row 0) (past high))) none)
     (cases_lt w (length rows))
   where
     past : length rows ≤ w → length (set rows w r) ≤ w
@@ -58,7 +60,7 @@ put_phase rows w r P none here =
 phase_kept :
     (rows : List WarpRow) (w : ℕ) (r : WarpRow) (v : ℕ) → (v ≡ w → ⊥)
     → (warp_row_at (set rows w r) v).phase ≡ (warp_row_at rows v).phase
-phase_kept rows w r v n = ap (λ (x : WarpRow). x.phase) (get_or-set_other rows w v r (idle_at 0) n)
+phase_kept rows w r v n = ap (λ (x : WarpRow). x.phase) (get_or-set_other rows w v r (idle_row 0) n)
 
 -- A row that keeps its phase.
 phase_stays :
@@ -69,11 +71,11 @@ phase_stays rows w r same v =
     (λ e.
     subst (λ u. (warp_row_at (set rows w r) u).phase ≡ (warp_row_at rows u).phase) (sym e)
     (⊎_elim
-    (λ low. ap (λ (x : WarpRow). x.phase) (get_or-set_same rows w r (idle_at 0) low) ∙ same)
+    (λ low. ap (λ (x : WarpRow). x.phase) (get_or-set_same rows w r (idle_row 0) low) ∙ same)
     (λ high.
     ap (λ (x : WarpRow). x.phase)
-    (get_or_past (set rows w r) w (idle_at 0) (past high)
-    ∙ sym (get_or_past rows w (idle_at 0) high)))
+    (get_or_past (set rows w r) w (idle_row 0) (past high)
+    ∙ sym (get_or_past rows w (idle_row 0) high)))
     (cases_lt w (length rows))))
     (λ n. phase_kept rows w r v n) (cases_eq v w)
   where
@@ -94,68 +96,68 @@ abbrev Has : Option Transaction → Type 0
 Has current = (tx : Transaction) × (current ≡ Some tx)
 
 joined_here :
-    (l : Ledger) (w : ℕ) (deed : Transaction → Deed) (tx : Transaction) → l.current w ≡ Some tx
-    → (joins l w deed).current w ≡ Some (doing tx (deed tx))
-joined_here l w deed tx mine =
-    current_here l w (option_map (λ t. doing t (deed t)) (l.current w))
-    ∙ ap (option_map (λ t. doing t (deed t))) mine
+    (l : Ledger) (w : ℕ) (action : Transaction → Action) (tx : Transaction) → l.current w ≡ Some tx
+    → (with_joined l w action).current w ≡ Some (with_action tx (action tx))
+joined_here l w action tx mine =
+    current_here l w (option_map (λ t. with_action t (action t)) (l.current w))
+    ∙ ap (option_map (λ t. with_action t (action t))) mine
 
 -- Which outcomes a request may come out with.
 abbrev Fits : Access → Outcome → Type 0
 Fits Read (Value value) = Unit {0}
 Fits Read Stored = ⊥
-Fits Read (Lost cause next) = Unit {0}
+Fits Read (OutcomeGone cause next) = Unit {0}
 Fits (Write new) (Value value) = ⊥
 Fits (Write new) Stored = Unit {0}
-Fits (Write new) (Lost cause next) = Unit {0}
+Fits (Write new) (OutcomeGone cause next) = Unit {0}
 
-lost_fits : (access : Access) (cause : Cause) (next : ℕ) → Fits access (Lost cause next)
+lost_fits : (access : Access) (cause : Cause) (next : ℕ) → Fits access (OutcomeGone cause next)
 lost_fits Read cause next = tt
 lost_fits (Write value) cause next = tt
 
 comes_joined :
     (l : Ledger) (w line : ℕ) (access : Access) (outcome : Outcome) → Fits access outcome → Has (l.current w)
-    → Joined ((comes_as l w line access outcome).current w) (settling w line access outcome) outcome
+    → HasJoined ((ledger_after_outcome l w line access outcome).current w) (settling w line access outcome) outcome
 comes_joined l w line Read (Value value) fits h = (
   load_found l.committed h.0 line,
   refl,
   (
-    doing h.0 (loaded (load_deed line value (load_found l.committed h.0 line))),
-    h.0.deeds,
-    joined_here l w (λ tx. loaded (load_deed line value (load_found l.committed tx line))) h.0 h.1,
+    with_action h.0 (loaded (load_action line value (load_found l.committed h.0 line))),
+    h.0.actions,
+    joined_here l w (λ tx. loaded (load_action line value (load_found l.committed tx line))) h.0 h.1,
     refl,
   ),
 )
 comes_joined l w line Read Stored fits h = absurd fits
-comes_joined l w line Read (Lost cause next) fits h = h
+comes_joined l w line Read (OutcomeGone cause next) fits h = h
 comes_joined l w line (Write new) (Value value) fits h = absurd fits
 comes_joined l w line (Write new) Stored fits h = (
   new,
   refl,
   (
-    doing h.0 (stored (entry line new)),
-    h.0.deeds,
-    joined_here l w (λ tx. stored (entry line new)) h.0 h.1,
+    with_action h.0 (stored (log_entry line new)),
+    h.0.actions,
+    joined_here l w (λ tx. stored (log_entry line new)) h.0 h.1,
     refl,
   ),
 )
-comes_joined l w line (Write new) (Lost cause next) fits h = h
+comes_joined l w line (Write new) (OutcomeGone cause next) fits h = h
 
 comes_other :
     (l : Ledger) (w line : ℕ) (access : Access) (outcome : Outcome) (v : ℕ) → (v ≡ w → ⊥)
-    → (comes_as l w line access outcome).current v ≡ l.current v
+    → (ledger_after_outcome l w line access outcome).current v ≡ l.current v
 comes_other l w line Read (Value value) v n = current_there l w _ v n
 comes_other l w line Read Stored v n = refl
-comes_other l w line Read (Lost cause next) v n = refl
+comes_other l w line Read (OutcomeGone cause next) v n = refl
 comes_other l w line (Write new) (Value value) v n = refl
 comes_other l w line (Write new) Stored v n = current_there l w _ v n
-comes_other l w line (Write new) (Lost cause next) v n = refl
+comes_other l w line (Write new) (OutcomeGone cause next) v n = refl
 
 -- A request that has joined is of a warp that has a transaction.
-joined_has : (o : Option Transaction) (s : Settling) (outcome : Outcome) → Joined o s outcome → Has o
+joined_has : (o : Option Transaction) (s : Settling) (outcome : Outcome) → HasJoined o s outcome → Has o
 joined_has o s (Value value) j = (j.2.0, j.2.2)
 joined_has o s Stored j = (j.2.0, j.2.2)
-joined_has o s (Lost cause next) j = j
+joined_has o s (OutcomeGone cause next) j = j
 
 -- The last that came out, when one more comes out.
 last_here :
@@ -174,7 +176,7 @@ last_there settled s v n =
 -- What a call that is not refused says of its warp.
 phase_fine :
     (a : Option Fault) (o : Option Refusal) (n : ℕ) (b : Option Fault)
-    → option_or a (option_or (faulty o n) b) ≡ None → o ≡ None
+    → option_or a (option_or (refusal_fault o n) b) ≡ None → o ≡ None
 phase_fine (Some fault) o n b e = absurd (cc)
 phase_fine None (Some why) n b e = absurd (cc)
 phase_fine None None n b e = refl
@@ -210,12 +212,12 @@ record Now (current : Option Transaction) (here : Option Settling) (outcome : Ou
   settling : Settling
   came_out : here ≡ Some settling
   its_outcome : outcome ≡ settling.outcome
-  joined : Joined current settling settling.outcome
+  joined : HasJoined current settling settling.outcome
 
 module _ (events : List Event) where
   record Before (w : ℕ) (current : Option Transaction) (here : Option Settling) (outcome : Outcome) : Type 0 where
     none_here : here ≡ None
-    told_so : FetchTold events w (answer_of outcome)
+    told_so : FetchReturns events w (answer_of outcome)
     stays : current ≡ (ledger_of events).current w
 
   abbrev Tells : ℕ → Option Transaction → Option Settling → Phase → Type 0
@@ -266,48 +268,48 @@ module _ (events : List Event) where
     -- A request comes out.
     settles_phase :
         (m : Machine k) (w : ℕ) (outcome : Outcome) (P : Phase → Type 0) → P Idle → P (Settled outcome)
-        → P (warp_row_of (settles m w outcome) w).phase
-    unfolding settles withdraws
+        → P (warp_row_of (after_settling m w outcome) w).phase
+    unfolding after_settling after_withdrawal
     settles_phase m w outcome P none here =
-        put_phase (set m.warp_rows w (in_phase (warp_row_of m w) Open)) w _ P none here
+        put_phase (set m.warp_rows w (row_in_phase (warp_row_of m w) Open)) w _ P none here
 
     settles_kept :
         (m : Machine k) (w : ℕ) (outcome : Outcome) (v : ℕ) → (v ≡ w → ⊥)
-        → (warp_row_of (settles m w outcome) v).phase ≡ (warp_row_of m v).phase
-    unfolding settles withdraws
+        → (warp_row_of (after_settling m w outcome) v).phase ≡ (warp_row_of m v).phase
+    unfolding after_settling after_withdrawal
     settles_kept m w outcome v n =
-        phase_kept (set m.warp_rows w (in_phase (warp_row_of m w) Open)) w _ v n
-        ∙ phase_kept m.warp_rows w (in_phase (warp_row_of m w) Open) v n
+        phase_kept (set m.warp_rows w (row_in_phase (warp_row_of m w) Open)) w _ v n
+        ∙ phase_kept m.warp_rows w (row_in_phase (warp_row_of m w) Open) v n
 
     module _ (start : Ledger) where
       -- What is known in the middle of the tries of a call.
-      abbrev told_by : Woken k → Ledger
-      told_by st = fold settles_one start st.settled
+      abbrev told_by : AfterTries k → Ledger
+      told_by st = fold ledger_after_settling start st.settled
 
-      abbrev KnownIn : Woken k → Type 0
+      abbrev KnownIn : AfterTries k → Type 0
       KnownIn st = Known st.machine (told_by st).current (last_settling st.settled)
 
       comes_known :
-          (st : Woken k) (m : Machine k) (w line : ℕ) (access : Access) (outcome : Outcome)
+          (st : AfterTries k) (m : Machine k) (w line : ℕ) (access : Access) (outcome : Outcome)
           → KnownIn st → ((v : ℕ) → (warp_row_of m v).phase ≡ (warp_row_of st.machine v).phase)
           → Has ((told_by st).current w) → Fits access outcome
           → KnownIn
           (record
-          { machine = settles m w outcome; settled = st.settled ++ settling w line access outcome ∷ [] })
+          { machine = after_settling m w outcome; settled = st.settled ++ settling w line access outcome ∷ [] })
       comes_known st m w line access outcome known same has fits =
           subst
           (λ (l : Ledger).
-          Known (settles m w outcome) l.current
+          Known (after_settling m w outcome) l.current
           (last_settling (st.settled ++ settling w line access outcome ∷ [])))
-          (sym (fold_push settles_one start st.settled (settling w line access outcome)))
-          (moves st.machine (settles m w outcome) (told_by st).current
-          (comes_as (told_by st) w line access outcome).current (last_settling st.settled)
+          (sym (fold_push ledger_after_settling start st.settled (settling w line access outcome)))
+          (moves st.machine (after_settling m w outcome) (told_by st).current
+          (ledger_after_outcome (told_by st) w line access outcome).current (last_settling st.settled)
           (last_settling (st.settled ++ settling w line access outcome ∷ [])) w known
           (λ v n. settles_kept m w outcome v n ∙ same v)
           (λ v n. comes_other (told_by st) w line access outcome v n)
           (λ v n. last_there st.settled (settling w line access outcome) v n)
           (settles_phase m w outcome
-          (Tells w ((comes_as (told_by st) w line access outcome).current w)
+          (Tells w ((ledger_after_outcome (told_by st) w line access outcome).current w)
           (last_settling (st.settled ++ settling w line access outcome ∷ []) w)) tt
           (inl
           (record {
@@ -320,78 +322,78 @@ module _ (events : List Event) where
       -- What is served leaves every phase.
       served_phases :
           (m : Machine k) (w line : ℕ) (access : Access) (v : ℕ)
-          → (warp_row_of (serves m w line access).machine v).phase ≡ (warp_row_of m v).phase
-      unfolding serves
+          → (warp_row_of (served_on_free_line m w line access).machine v).phase ≡ (warp_row_of m v).phase
+      unfolding served_on_free_line
       served_phases m w line Read v = refl
       served_phases m w line (Write value) v = phase_stays m.warp_rows w _ refl v
 
       served_fits :
-          (m : Machine k) (w line : ℕ) (access : Access) → Fits access (serves m w line access).outcome
-      unfolding serves
+          (m : Machine k) (w line : ℕ) (access : Access) → Fits access (served_on_free_line m w line access).outcome
+      unfolding served_on_free_line
       served_fits m w line Read = tt
       served_fits m w line (Write value) = tt
 
       tried_known :
-          (st : Woken k) (w line : ℕ) (access : Access) (v : Verdict) → KnownIn st
-          → Has ((told_by st).current w) → KnownIn (tried st w line access v)
-      unfolding tried
-      tried_known st w line access own_line known has = known
-      tried_known st w line access (lost cause next) known has =
-          comes_known st st.machine w line access (Lost cause next) known (λ v. refl) has
+          (st : AfterTries k) (w line : ℕ) (access : Access) (v : Verdict) → KnownIn st
+          → Has ((told_by st).current w) → KnownIn (after_try st w line access v)
+      unfolding after_try
+      tried_known st w line access OwnLine known has = known
+      tried_known st w line access (VerdictGone cause next) known has =
+          comes_known st st.machine w line access (OutcomeGone cause next) known (λ v. refl) has
           (lost_fits access cause next)
-      tried_known st w line access must_wait known has = known
-      tried_known st w line access go_on known has =
-          comes_known st (serves st.machine w line access).machine w line access
-          (serves st.machine w line access).outcome known (served_phases st.machine w line access) has
+      tried_known st w line access MustWait known has = known
+      tried_known st w line access GoOn known has =
+          comes_known st (served_on_free_line st.machine w line access).machine w line access
+          (served_on_free_line st.machine w line access).outcome known (served_phases st.machine w line access) has
           (served_fits st.machine w line access)
 
       retried_known :
-          (st : Woken k) (w line : ℕ) (o : Option Access) → pending st.machine w line ≡ o → KnownIn st
-          → KnownIn (retries st w line o)
-      unfolding retries
+          (st : AfterTries k) (w line : ℕ) (o : Option Access) → pending_access st.machine w line ≡ o → KnownIn st
+          → KnownIn (after_turn_with st w line o)
+      unfolding after_turn_with
       retried_known st w line None e known = known
       retried_known st w line (Some access) e known =
-          tried_known st w line access (retried access (told k st.machine.book line) (time_of st.machine w))
+          tried_known st w line access (retried access (line_state k st.machine.book line) (time_of st.machine w))
           known
           (subst (Tells w ((told_by st).current w) (last_settling st.settled w))
           (waits_if (warp_row_of st.machine w).phase (access_at (request_of st.machine.queue w) line) access e)
           (known w))
 
       turns_known :
-          (line : ℕ) (turns : List ℕ) (st : Woken k) → KnownIn st → KnownIn (fold (tries line) st turns)
+          (line : ℕ) (turns : List ℕ) (st : AfterTries k) → KnownIn st → KnownIn (fold (after_turn line) st turns)
       turns_known line [] st known = known
       turns_known line (w ∷ turns) st known =
-          turns_known line turns (tries line st w)
-          (retried_known st w line (pending st.machine w line) refl known)
+          turns_known line turns (after_turn line st w)
+          (retried_known st w line (pending_access st.machine w line) refl known)
 
       lines_known :
-          (policy : Policy k) (lines : List ℕ) (st : Woken k) → KnownIn st
-          → KnownIn (fold (wakes policy) st lines)
-      unfolding wakes
+          (policy : Policy k) (lines : List ℕ) (st : AfterTries k) → KnownIn st
+          → KnownIn (fold (after_turns policy) st lines)
+      unfolding after_turns
       lines_known policy [] st known = known
       lines_known policy (line ∷ lines) st known =
-          lines_known policy lines (wakes policy st line)
+          lines_known policy lines (after_turns policy st line)
           (turns_known line (policy.turns st.machine line) st known)
 
       -- The end of a warp's transaction, with all tries.
       ends_known :
           (policy : Policy k) (m : Machine k) (w stamp : ℕ) (current : ℕ → Option Transaction)
           → Known m current (λ v. None)
-          → ((v : ℕ) → (v ≡ w → ⊥) → start.current v ≡ current v) → KnownIn (ends policy m w stamp)
-      unfolding ends gives_up lets_go
+          → ((v : ℕ) → (v ≡ w → ⊥) → start.current v ≡ current v) → KnownIn (after_end policy m w stamp)
+      unfolding after_end after_giving_up without_lines
       ends_known policy m w stamp current known others =
           lines_known policy (logged_lines (warp_row_of m w).log)
-          (record { machine = lets_go m w (idle_at stamp) (logged_lines (warp_row_of m w).log); settled = [] })
-          (moves m (lets_go m w (idle_at stamp) (logged_lines (warp_row_of m w).log)) current start.current
-          (λ v. None) (λ v. None) w known (λ v n. phase_kept m.warp_rows w (idle_at stamp) v n) others
+          (record { machine = without_lines m w (idle_row stamp) (logged_lines (warp_row_of m w).log); settled = [] })
+          (moves m (without_lines m w (idle_row stamp) (logged_lines (warp_row_of m w).log)) current start.current
+          (λ v. None) (λ v. None) w known (λ v n. phase_kept m.warp_rows w (idle_row stamp) v n) others
           (λ v n. refl)
-          (put_phase m.warp_rows w (idle_at stamp) (Tells w (start.current w) None) tt tt))
+          (put_phase m.warp_rows w (idle_row stamp) (Tells w (start.current w) None) tt tt))
 
     module _ (policy : Policy k) (m : Machine k) (l : Ledger) (known : Known m l.current (λ v. None)) (w : ℕ) where
       -- What a call leaves, with what the account hears of it.
       abbrev After : Op → Step k → Type 0
       After op s =
-          Known s.machine (fold settles_one (says l w (warp_row_of m w).stamp op s.answer) s.settled).current
+          Known s.machine (fold ledger_after_settling (ledger_after_reply l w (warp_row_of m w).stamp op s.answer) s.settled).current
           (last_settling s.settled)
 
       -- One row is put, with its warp's transaction.
@@ -409,38 +411,38 @@ module _ (events : List Event) where
         its = subst (Tells w (l.current w) None) may (known w)
 
         joins_known :
-            (m' : Machine k) (deed : Transaction → Deed)
+            (m' : Machine k) (action : Transaction → Action)
             → ((v : ℕ) → (warp_row_of m' v).phase ≡ (warp_row_of m v).phase)
-            → Known m' (joins l w deed).current (λ v. None)
-        joins_known m' deed same =
-            moves m m' l.current (joins l w deed).current (λ v. None) (λ v. None) w known (λ v n. same v)
+            → Known m' (with_joined l w action).current (λ v. None)
+        joins_known m' action same =
+            moves m m' l.current (with_joined l w action).current (λ v. None) (λ v. None) w known (λ v n. same v)
             (λ v n. current_there l w _ v n) (λ v n. refl)
-            (subst (Tells w ((joins l w deed).current w) None) (sym (same w ∙ may))
-            (doing its.0 (deed its.0), joined_here l w deed its.0 its.1))
+            (subst (Tells w ((with_joined l w action).current w) None) (sym (same w ∙ may))
+            (with_action its.0 (action its.0), joined_here l w action its.0 its.1))
 
         accessed_known :
-            (line : ℕ) (access : Access) (v : Verdict) → After (op_of access line) (accessed policy m w line access v)
-        unfolding accessed serves serves_own waits
-        accessed_known line Read own_line = joins_known (serves_own m w line Read).machine _ (λ v. refl)
-        accessed_known line (Write value) own_line =
-            joins_known (serves_own m w line (Write value)).machine _ (λ v. phase_stays m.warp_rows w _ refl v)
-        accessed_known line access (lost cause next) =
-            ends_known (ends_here l w) policy m w next l.current known (λ v n. current_there l w None v n)
-        accessed_known line access must_wait =
-            puts_known (in_phase (warp_row_of m w) Waiting) l (λ v n. refl) its
-        accessed_known line Read go_on = joins_known (serves m w line Read).machine _ (λ v. refl)
-        accessed_known line (Write value) go_on =
-            joins_known (serves m w line (Write value)).machine _ (λ v. phase_stays m.warp_rows w _ refl v)
+            (line : ℕ) (access : Access) (v : Verdict) → After (op_of access line) (step_by_verdict policy m w line access v)
+        unfolding step_by_verdict served_on_free_line served_on_own_line with_request_queued
+        accessed_known line Read OwnLine = joins_known (served_on_own_line m w line Read).machine _ (λ v. refl)
+        accessed_known line (Write value) OwnLine =
+            joins_known (served_on_own_line m w line (Write value)).machine _ (λ v. phase_stays m.warp_rows w _ refl v)
+        accessed_known line access (VerdictGone cause next) =
+            ends_known (without_current l w) policy m w next l.current known (λ v n. current_there l w None v n)
+        accessed_known line access MustWait =
+            puts_known (row_in_phase (warp_row_of m w) Waiting) l (λ v n. refl) its
+        accessed_known line Read GoOn = joins_known (served_on_free_line m w line Read).machine _ (λ v. refl)
+        accessed_known line (Write value) GoOn =
+            joins_known (served_on_free_line m w line (Write value)).machine _ (λ v. phase_stays m.warp_rows w _ refl v)
 
-      fetched_known : (outcome : Outcome) → Has (l.current w) → After Fetch (fetched policy m w outcome)
-      unfolding fetched
-      fetched_known (Value value) has = puts_known (in_phase (warp_row_of m w) Open) l (λ v n. refl) has
-      fetched_known Stored has = puts_known (in_phase (warp_row_of m w) Open) l (λ v n. refl) has
-      fetched_known (Lost cause next) has =
-          ends_known (ends_here l w) policy m w next l.current known (λ v n. current_there l w None v n)
+      fetched_known : (outcome : Outcome) → Has (l.current w) → After Fetch (fetched_step policy m w outcome)
+      unfolding fetched_step
+      fetched_known (Value value) has = puts_known (row_in_phase (warp_row_of m w) Open) l (λ v n. refl) has
+      fetched_known Stored has = puts_known (row_in_phase (warp_row_of m w) Open) l (λ v n. refl) has
+      fetched_known (OutcomeGone cause next) has =
+          ends_known (without_current l w) policy m w next l.current known (λ v n. current_there l w None v n)
 
       fetches_known :
-          (p : Phase) → (warp_row_of m w).phase ≡ p → After Fetch (fetches policy m w p)
+          (p : Phase) → (warp_row_of m w).phase ≡ p → After Fetch (fetch_step policy m w p)
       fetches_known Idle e = known
       fetches_known Open e = known
       fetches_known Waiting e = known
@@ -449,35 +451,35 @@ module _ (events : List Event) where
           (settled_has w (l.current w) None outcome (subst (Tells w (l.current w) None) e (known w)))
 
       granted_known :
-          (op : Op) → phase_refuses (warp_row_of m w).phase op ≡ None → After op (granted policy m w op)
+          (op : Op) → phase_refuses (warp_row_of m w).phase op ≡ None → After op (accepted_step policy m w op)
       granted_known Begin fine =
-          puts_known (open_at (warp_row_of m w).stamp) (begins l w (warp_row_of m w).stamp)
+          puts_known (open_row (warp_row_of m w).stamp) (with_begun l w (warp_row_of m w).stamp)
           (λ v n. current_there l w _ v n)
-          (record { stamp = (warp_row_of m w).stamp; warp = w; deeds = [] }, current_here l w _)
+          (record { stamp = (warp_row_of m w).stamp; warp = w; actions = [] }, current_here l w _)
       granted_known (Load line) fine =
           accessed_known (load_open line (warp_row_of m w).phase fine) line Read (verdict_at policy m w line Read)
       granted_known (Store line value) fine =
           accessed_known (store_open line value (warp_row_of m w).phase fine) line (Write value)
           (verdict_at policy m w line (Write value))
       granted_known Commit fine =
-          ends_known (commits l w) policy (writes_back m w) w (warp_row_of m w).stamp l.current known
+          ends_known (with_committed l w) policy (with_log_written m w) w (warp_row_of m w).stamp l.current known
           (λ v n. current_there l w None v n)
       granted_known Drop fine =
-          ends_known (ends_here l w) policy m w (warp_row_of m w).stamp l.current known
+          ends_known (without_current l w) policy m w (warp_row_of m w).stamp l.current known
           (λ v n. current_there l w None v n)
       granted_known Fetch fine = fetches_known (warp_row_of m w).phase refl
 
     -- A call, refused or not.
     step_known :
         (policy : Policy k) (m : Machine k) (l : Ledger) → Known m l.current (λ v. None) → (call : Call)
-        → Known (step policy m call).machine (hears l (event_of policy m call)).current
+        → Known (step policy m call).machine (ledger_after_event l (event_of policy m call)).current
         (last_settling (event_of policy m call).settled)
-    unfolding hears
+    unfolding ledger_after_event
     step_known policy m l known call = by_fault (fault_of m call) refl
       where
         by_fault :
             (o : Option Fault) → fault_of m call ≡ o
-            → After policy m l known call.warp call.op (checked policy m call o)
+            → After policy m l known call.warp call.op (checked_step policy m call o)
         by_fault (Some fault) e = known
         by_fault None e =
             granted_known policy m l known call.warp call.op
@@ -486,28 +488,28 @@ module _ (events : List Event) where
     -- What a fetch is answered, where it is not told to wait.
     fetch_answer :
         (policy : Policy k) (m : Machine k) (w : ℕ) (outcome : Outcome) (answer : Answer)
-        → (fetched policy m w outcome).answer ≡ Ok answer → answer ≡ answer_of outcome
-    unfolding fetched
+        → (fetched_step policy m w outcome).answer ≡ Ok answer → answer ≡ answer_of outcome
+    unfolding fetched_step
     fetch_answer policy m w (Value value) answer e = cc
     fetch_answer policy m w Stored answer e = cc
-    fetch_answer policy m w (Lost cause next) answer e = cc
+    fetch_answer policy m w (OutcomeGone cause next) answer e = cc
 
     fetch_told :
         (policy : Policy k) (m : Machine k) → Known m (ledger_of events).current (λ v. None) → (w : ℕ)
-        → (answer : Answer) → (granted policy m w Fetch).answer ≡ Ok answer → answer ≢ Wait
-        → FetchTold events w answer
+        → (answer : Answer) → (accepted_step policy m w Fetch).answer ≡ Ok answer → answer ≢ Wait
+        → FetchReturns events w answer
     fetch_told policy m known w answer = by_phase (warp_row_of m w).phase refl
       where
         by_phase :
-            (p : Phase) → (warp_row_of m w).phase ≡ p → (fetches policy m w p).answer ≡ Ok answer
-            → answer ≢ Wait → FetchTold events w answer
+            (p : Phase) → (warp_row_of m w).phase ≡ p → (fetch_step policy m w p).answer ≡ Ok answer
+            → answer ≢ Wait → FetchReturns events w answer
         by_phase Idle e said more = absurd (more (cc))
         by_phase Open e said more = absurd (more (cc))
         by_phase Waiting e said more = absurd (more (cc))
         by_phase (Settled outcome) e said more =
             ⊎_elim (λ (now : Now ((ledger_of events).current w) None outcome). absurd (none now.settling now.came_out))
             (λ before.
-            subst (FetchTold events w) (sym (fetch_answer policy m w outcome answer said)) before.told_so)
+            subst (FetchReturns events w) (sym (fetch_answer policy m w outcome answer said)) before.told_so)
             (subst (Tells w ((ledger_of events).current w) None) e (known w))
           where
             none : (s : Settling) → None ≡ Some s → ⊥
@@ -516,16 +518,16 @@ module _ (events : List Event) where
     call_told :
         (policy : Policy k) (m : Machine k) → Known m (ledger_of events).current (λ v. None) → (call : Call)
         → call.op ≡ Fetch → (answer : Answer) → (step policy m call).answer ≡ Ok answer → answer ≢ Wait
-        → FetchTold events call.warp answer
+        → FetchReturns events call.warp answer
     call_told policy m known call op answer = by_fault (fault_of m call)
       where
         by_fault :
-            (o : Option Fault) → (checked policy m call o).answer ≡ Ok answer → answer ≢ Wait
-            → FetchTold events call.warp answer
+            (o : Option Fault) → (checked_step policy m call o).answer ≡ Ok answer → answer ≢ Wait
+            → FetchReturns events call.warp answer
         by_fault (Some fault) said more = absurd (cc)
         by_fault None said more =
             fetch_told policy m known call.warp answer
-            (ap (λ o. (granted policy m call.warp o).answer) (sym op) ∙ said) more
+            (ap (λ o. (accepted_step policy m call.warp o).answer) (sym op) ∙ said) more
 
 -- From one call to the next.
 settlings_push : (events : List Event) (e : Event) → settlings (events ++ e ∷ []) ≡ settlings events ++ e.settled
@@ -608,10 +610,10 @@ split_last {A = A} (y ∷ xs) (b ∷ before) after e x h =
 module _ {k : Kind} (policy : Policy k) where
   record Good (r : Run k) : Type 0 where
     known : Known r.events r.machine (ledger_of r.events).current (λ w. None)
-    tell : FetchesTell r.events
+    tell : FetchesReturn r.events
 
-  more_good : (r : Run k) (call : Call) → Good r → Good (goes_on policy r call)
-  unfolding goes_on
+  more_good : (r : Run k) (call : Call) → Good r → Good (run_with_call policy r call)
+  unfolding run_with_call
   more_good r call good =
       record {
         known =
@@ -622,7 +624,7 @@ module _ {k : Kind} (policy : Policy k) where
             (λ (l : Ledger).
             Tells r.events w (l.current w) (last_settling (event_of policy r.machine call).settled w)
             (warp_row_of (step policy r.machine call).machine w).phase)
-            (sym (fold_push hears new_ledger r.events (event_of policy r.machine call)))
+            (sym (fold_push ledger_after_event new_ledger r.events (event_of policy r.machine call)))
             (step_known r.events policy r.machine (ledger_of r.events) good.known call w));
         tell =
             λ before e after split op answer said more.
@@ -637,20 +639,20 @@ module _ {k : Kind} (policy : Policy k) where
       last :
           (before : List Event) (e : Event) → before ≡ r.events → e ≡ event_of policy r.machine call
           → e.call.op ≡ Fetch → (answer : Answer) → e.answer ≡ Ok answer → answer ≢ Wait
-          → FetchTold before e.call.warp answer
+          → FetchReturns before e.call.warp answer
       last before e a b op answer said more =
-          subst (λ x. FetchTold x e.call.warp answer) (sym a)
-          (subst (λ (x : Event). FetchTold r.events x.call.warp answer) (sym b)
+          subst (λ x. FetchReturns x e.call.warp answer) (sym a)
+          (subst (λ (x : Event). FetchReturns r.events x.call.warp answer) (sym b)
           (call_told r.events policy r.machine good.known call
           (ap (λ (x : Event). x.call.op) (sym b) ∙ op) answer
           (ap (λ (x : Event). x.answer) (sym b) ∙ said) more))
 
-  run_good : (calls : List Call) (r : Run k) → Good r → Good (fold (goes_on policy) r calls)
+  run_good : (calls : List Call) (r : Run k) → Good r → Good (fold (run_with_call policy) r calls)
   run_good [] r good = good
-  run_good (call ∷ calls) r good = run_good calls (goes_on policy r call) (more_good r call good)
+  run_good (call ∷ calls) r good = run_good calls (run_with_call policy r call) (more_good r call good)
 
 -- A new machine.
-all_idle : (stamps : List ℕ) (w : ℕ) → (warp_row_at (map idle_at stamps) w).phase ≡ Idle
+all_idle : (stamps : List ℕ) (w : ℕ) → (warp_row_at (map idle_row stamps) w).phase ≡ Idle
 all_idle [] w = refl
 all_idle (s ∷ stamps) zero = refl
 all_idle (s ∷ stamps) (suc w) = all_idle stamps w
@@ -661,7 +663,7 @@ first_idle (Some fault) stamps w = refl
 
 pub law_of_fetches : (k : Kind) → LawOfFetches k
 law_of_fetches k policy lines book stamps calls =
-    (run_good policy calls (record { machine = make k lines book stamps; events = [] })
+    (run_good policy calls (record { machine = new_machine k lines book stamps; events = [] })
     (record {
       known = λ w. subst (Tells [] w None None) (sym (first_idle (making_fault k book stamps) stamps w)) tt;
       tell = λ before e after split op answer said more. absurd (none before e after split);

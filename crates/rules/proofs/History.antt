@@ -7,7 +7,7 @@ use Rattle.memory.specs.Lines.{Lines}
 use Rattle.book.specs.Meaning.{Kind}
 use Rattle.book.specs.Time.{Time, earlier}
 use Rattle.rules.specs.Lists.{has, last_of}
-use Rattle.rules.specs.Transactions.{Found, Transaction, named, writers, last_found}
+use Rattle.rules.specs.Transactions.{Found, Transaction, transaction_named, writers, last_found}
 use Rattle.rules.proofs.Replay.{found_value, writer, EachLoad}
 use Rattle.rules.proofs.Serial.{key, stamp_at, Right}
 
@@ -73,7 +73,7 @@ module _ (k : Kind) (first : Lines) where
     pub sorted :
         (line i j : ℕ) → i < j → writer first txs line i ≡ true → writer first txs line j ≡ true
         → stamp_at first txs i < stamp_at first txs j
-    pub warps : (i : ℕ) → i < length txs → (named txs i).warp < 32
+    pub warps : (i : ℕ) → i < length txs → (transaction_named txs i).warp < 32
     pub line_low : (line i : ℕ) → writer first txs line i ≡ true → line < line_limit
     pub there : (line i : ℕ) → writer first txs line i ≡ true → is_some (first line) ≡ true
     pub passes : (line i : ℕ) → writer first txs line i ≡ true → stamp_at first txs i < k.write_stamp s line
@@ -93,7 +93,7 @@ module _ (k : Kind) (first : Lines) where
       pub held : (h t : ℕ) → H h line ≡ Some t → key stamp warp ≤ key t h
 
   abbrev pub Reads : List Transaction → Holding → k.State → ℕ → Transaction → Type 0
-  Reads txs H s place tx = EachLoad (ReadNow txs H s place tx.stamp tx.warp) tx.deeds
+  Reads txs H s place tx = EachLoad (ReadNow txs H s place tx.stamp tx.warp) tx.actions
 
   module _ (txs : List Transaction) (H : Holding) (lines : Lines) (s s' : k.State) (g : Grown k s s') where
     pub core_grown : Core txs H lines s → Core txs H lines s'

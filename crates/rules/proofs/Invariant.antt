@@ -8,8 +8,8 @@ use Rattle.book.specs.Meaning.{Kind, Keeps}
 use Rattle.rules.specs.declared.state.Request.{Request}
 use Rattle.rules.specs.State.{WarpRow, Machine, is_idle, is_waiting, warp_row_of}
 use Rattle.rules.specs.Queue.{request_of}
-use Rattle.rules.specs.Transactions.{Deed, Transaction, writes, stores_of}
-use Rattle.rules.specs.Ledger.{Ledger, doing, with_current}
+use Rattle.rules.specs.Transactions.{Action, Transaction, is_written, transaction_stores}
+use Rattle.rules.specs.Ledger.{Ledger, with_action, with_current}
 use Rattle.rules.proofs.ListFacts.{eqb_same}
 use Rattle.rules.proofs.Tallies.{Tallied}
 use Rattle.rules.proofs.Ledgers.{hold_in, hold, hold_writes, History}
@@ -19,7 +19,7 @@ use Rattle.rules.proofs.Logs.{busy_low}
 pub record Running (warp_row : WarpRow) (tx : Transaction) : Type 0 where
   pub busy : is_idle warp_row.phase ≡ false
   pub same_stamp : tx.stamp ≡ warp_row.stamp
-  pub same_log : warp_row.log ≡ stores_of tx.deeds
+  pub same_log : warp_row.log ≡ transaction_stores tx.actions
   pub in_clock : warp_row.stamp ≤ last_stamp
 
 abbrev pub Matches : WarpRow → Option Transaction → Type 0
@@ -188,21 +188,21 @@ module _ (k : Kind) (first : Lines) where
   -- Whoever holds a line has a transaction that stored to it.
   pub holds_line :
       (l : Ledger) (w line t : ℕ) → hold l w line ≡ Some t
-      → (tx : Transaction) × (l.current w ≡ Some tx) × (writes tx.deeds line ≡ true) × (tx.stamp ≡ t)
+      → (tx : Transaction) × (l.current w ≡ Some tx) × (is_written tx.actions line ≡ true) × (tx.stamp ≡ t)
   holds_line l w line t e = step (l.current w) refl e
     where
       inner :
-          (tx : Transaction) → l.current w ≡ Some tx → (b : Bool) → writes tx.deeds line ≡ b
+          (tx : Transaction) → l.current w ≡ Some tx → (b : Bool) → is_written tx.actions line ≡ b
           → cond b (Some tx.stamp) None ≡ Some t
-          → (tx : Transaction) × (l.current w ≡ Some tx) × (writes tx.deeds line ≡ true) × (tx.stamp ≡ t)
+          → (tx : Transaction) × (l.current w ≡ Some tx) × (is_written tx.actions line ≡ true) × (tx.stamp ≡ t)
       inner tx p true q r = (tx, p, q, (cc))
       inner tx p false q r = let z : ◌≡◌ {A = ℕ} 0 1 = cc in absurd (omega arith)
 
       step :
           (o : Option Transaction) → l.current w ≡ o → hold_in o line ≡ Some t
-          → (tx : Transaction) × (l.current w ≡ Some tx) × (writes tx.deeds line ≡ true) × (tx.stamp ≡ t)
+          → (tx : Transaction) × (l.current w ≡ Some tx) × (is_written tx.actions line ≡ true) × (tx.stamp ≡ t)
       step None p q = let z : ◌≡◌ {A = ℕ} 0 1 = cc in absurd (omega arith)
-      step (Some tx) p q = inner tx p (writes tx.deeds line) refl q
+      step (Some tx) p q = inner tx p (is_written tx.actions line) refl q
 
   module _ (keeps : Keeps k) (E : ℕ → ℕ → Type 0) (m : Machine k) (l : Ledger) (I : Inv E m l) (w : ℕ) where
     -- A warp with a transaction.
@@ -221,57 +221,57 @@ module _ (k : Kind) (first : Lines) where
 
       -- What it holds stays held when it does one thing more.
       joined_holds :
-          (d : Deed) → ((n : ℕ) → writes tx.deeds n ≡ true → writes (d ∷ tx.deeds) n ≡ true)
+          (d : Action) → ((n : ℕ) → is_written tx.actions n ≡ true → is_written (d ∷ tx.actions) n ≡ true)
           → (h line t : ℕ) → hold l h line ≡ Some t
-          → hold (with_current l w (Some (doing tx d))) h line ≡ Some t
+          → hold (with_current l w (Some (with_action tx d))) h line ≡ Some t
       joined_holds d to h line t e = step (eqb h w) refl
         where
-          step : (b : Bool) → eqb h w ≡ b → hold_in (cond b (Some (doing tx d)) (l.current h)) line ≡ Some t
+          step : (b : Bool) → eqb h w ≡ b → hold_in (cond b (Some (with_action tx d)) (l.current h)) line ≡ Some t
           step true p =
               let q = holds_line l h line t e in
               let same : l.current h ≡ Some tx = ap l.current (eqb-true h w p) ∙ mine in
               let again = q.1 in
               let one : q.0 ≡ tx = cc in
-              let x : writes tx.deeds line ≡ true =
-              subst (λ (u : Transaction). writes u.deeds line ≡ true) one q.2
+              let x : is_written tx.actions line ≡ true =
+              subst (λ (u : Transaction). is_written u.actions line ≡ true) one q.2
               in
-              hold_writes (doing tx d) line (to line x)
+              hold_writes (with_action tx d) line (to line x)
               ∙ ap Some (ap (λ (u : Transaction). u.stamp) (sym one) ∙ q.3)
           step false p = e
 
       -- One thing more, done by this warp; its row may log it.
-      abbrev pub with_deed : (Transaction → Deed) → Ledger
-      with_deed deed = with_current l w (option_map (λ t. doing t (deed t)) (l.current w))
+      abbrev pub with_deed : (Transaction → Action) → Ledger
+      with_deed action = with_current l w (option_map (λ t. with_action t (action t)) (l.current w))
 
       pub does :
-          (m' : Machine k) (deed : Transaction → Deed) → k.Good m'.book
-          → History k first (with_deed deed) m'.lines m'.book
+          (m' : Machine k) (action : Transaction → Action) → k.Good m'.book
+          → History k first (with_deed action) m'.lines m'.book
           → length m'.warp_rows ≡ length m.warp_rows → m'.queue ≡ m.queue
           → ((v : ℕ) → (warp_row_of m' v).phase ≡ (warp_row_of m v).phase)
           → ((v : ℕ) → (warp_row_of m' v).stamp ≡ (warp_row_of m v).stamp)
           → ((v : ℕ) → (v ≡ w → ⊥) → warp_row_of m' v ≡ warp_row_of m v)
-          → ((n : ℕ) → writes tx.deeds n ≡ true → writes (deed tx ∷ tx.deeds) n ≡ true)
-          → (warp_row_of m' w).log ≡ stores_of (deed tx ∷ tx.deeds)
-          → Tallied k (with_deed deed) m'.book
-          → Inv E m' (with_deed deed)
-      does m' deed good history size queue phases stamps others to log tallied =
-          steady E m m' l (with_deed deed) I good history size queue phases
+          → ((n : ℕ) → is_written tx.actions n ≡ true → is_written (action tx ∷ tx.actions) n ≡ true)
+          → (warp_row_of m' w).log ≡ transaction_stores (action tx ∷ tx.actions)
+          → Tallied k (with_deed action) m'.book
+          → Inv E m' (with_deed action)
+      does m' action good history size queue phases stamps others to log tallied =
+          steady E m m' l (with_deed action) I good history size queue phases
           stamps
           (λ h line t e.
-          subst (λ o. hold (with_current l w (option_map (λ t. doing t (deed t)) o)) h line ≡ Some t) (sym mine)
-          (joined_holds (deed tx) to h line t e))
+          subst (λ o. hold (with_current l w (option_map (λ t. with_action t (action t)) o)) h line ≡ Some t) (sym mine)
+          (joined_holds (action tx) to h line t e))
           (λ v. match v (cases_eq v w)) tallied
         where
           match :
               (v : ℕ) → (v ≡ w) ⊎ (v ≡ w → ⊥)
-              → Matches (warp_row_of m' v) ((with_deed deed).current v)
+              → Matches (warp_row_of m' v) ((with_deed action).current v)
           match v (inl e) =
               subst
-              (λ u. Matches (warp_row_of m' u) ((with_deed deed).current u))
+              (λ u. Matches (warp_row_of m' u) ((with_deed action).current u))
               (sym e)
               (subst (Matches (warp_row_of m' w))
-              (sym (current_mine l w (option_map (λ t. doing t (deed t)) (l.current w))
-              ∙ ap (option_map (λ t. doing t (deed t))) mine))
+              (sym (current_mine l w (option_map (λ t. with_action t (action t)) (l.current w))
+              ∙ ap (option_map (λ t. with_action t (action t))) mine))
               (record {
                 busy = ap is_idle (phases w) ∙ running.busy;
                 same_stamp = running.same_stamp ∙ sym (stamps w);
@@ -279,8 +279,8 @@ module _ (k : Kind) (first : Lines) where
                 in_clock = let a = running.in_clock in let b = stamps w in omega arith;
               }))
           match v (inr n) =
-              subst (λ warp_row. Matches warp_row ((with_deed deed).current v))
+              subst (λ warp_row. Matches warp_row ((with_deed action).current v))
               (sym (others v n))
               (subst (Matches (warp_row_of m v))
-              (sym (current_other l w (option_map (λ t. doing t (deed t)) (l.current w)) v n))
+              (sym (current_other l w (option_map (λ t. with_action t (action t)) (l.current w)) v n))
               (I.warp_rows v))

@@ -8,14 +8,14 @@ use Rattle.protocol.specs.Limits.{line_limit}
 use Rattle.memory.specs.Lines.{Lines}
 use Rattle.book.specs.Meaning.{Kind}
 use Rattle.book.specs.Time.{earlier}
-use Rattle.rules.specs.Lists.{has, last_of, upto}
-use Rattle.rules.specs.Logs.{entry}
-use Rattle.rules.specs.Steps.{written}
-use Rattle.rules.specs.Transactions.{Found, Deed, loaded, stored, load_deed, Transaction, own_store, writes}
-use Rattle.rules.specs.Transactions.{stores_of, named}
+use Rattle.rules.specs.Lists.{has, last_of, numbers_below}
+use Rattle.rules.specs.Logs.{log_entry}
+use Rattle.rules.specs.Steps.{lines_after_stores}
+use Rattle.rules.specs.Transactions.{Found, Action, loaded, stored, load_action, Transaction, last_own_store, is_written}
+use Rattle.rules.specs.Transactions.{transaction_stores, transaction_named}
 use Rattle.rules.specs.Transactions.{writers, last_found}
-use Rattle.rules.specs.Ledger.{Ledger, found_at, load_found, doing, with_current, joins_load, joins_store, begins}
-use Rattle.rules.specs.Ledger.{ends_here, as_list, commits}
+use Rattle.rules.specs.Ledger.{Ledger, found_at, load_found, with_action, with_current, with_load, with_store, with_begun}
+use Rattle.rules.specs.Ledger.{without_current, as_list, with_committed}
 use Rattle.rules.proofs.ListFacts.{eqb_sym, kept_has, has_upto, kept_upto_rises, last_some, last_tops}
 use Rattle.rules.proofs.Replay.{AtLoad, each_weaker, writer}
 use Rattle.rules.proofs.Serial.{key, key_of, Earlier, seen, writer_below}
@@ -27,13 +27,13 @@ use Rattle.rules.proofs.Closing.{Ready, core_more, read_more, named_old, named_n
 -- What a warp's transaction holds: the lines that it stored to, at its stamp.
 abbrev pub hold_in : Option Transaction → ℕ → Option ℕ
 hold_in None line = None
-hold_in (Some tx) line = cond (writes tx.deeds line) (Some tx.stamp) None
+hold_in (Some tx) line = cond (is_written tx.actions line) (Some tx.stamp) None
 
 abbrev pub hold : Ledger → Holding
 hold l h line = hold_in (l.current h) line
 
 pub hold_writes :
-    (tx : Transaction) (line : ℕ) → writes tx.deeds line ≡ true → hold_in (Some tx) line ≡ Some tx.stamp
+    (tx : Transaction) (line : ℕ) → is_written tx.actions line ≡ true → hold_in (Some tx) line ≡ Some tx.stamp
 hold_writes tx line w = ap (λ b. cond b (Some tx.stamp) None) w
 
 -- A warp's transaction is the changed one or as it was.
@@ -63,7 +63,7 @@ module _ (k : Kind) (first : Lines) where
     pub core : Core k first l.committed (hold l) lines s
     pub past :
         (i : ℕ) → i < length l.committed
-        → Reads k first l.committed (hold l) s i (named l.committed i)
+        → Reads k first l.committed (hold l) s i (transaction_named l.committed i)
     pub now :
         (h : ℕ) (tx : Transaction) → l.current h ≡ Some tx
         → Reads k first l.committed (hold l) s (length l.committed) tx
@@ -73,7 +73,7 @@ module _ (k : Kind) (first : Lines) where
   module _ (l : Ledger) (w : ℕ) (o : Option Transaction) (H' : Holding) (lines : Lines) (s' : k.State) where
     changed :
         hold (with_current l w o) ≡ H' → Core k first l.committed H' lines s'
-        → ((i : ℕ) → i < length l.committed → Reads k first l.committed H' s' i (named l.committed i))
+        → ((i : ℕ) → i < length l.committed → Reads k first l.committed H' s' i (transaction_named l.committed i))
         → ((h : ℕ) (tx : Transaction) → (h ≡ w → ⊥) → l.current h ≡ Some tx
         → Reads k first l.committed H' s' (length l.committed) tx)
         → ((tx : Transaction) → o ≡ Some tx
@@ -85,7 +85,7 @@ module _ (k : Kind) (first : Lines) where
           core = subst (λ H. Core k first l.committed H lines s') (sym e) core;
           past =
               λ i low.
-              subst (λ H. Reads k first l.committed H s' i (named l.committed i)) (sym e) (past i low);
+              subst (λ H. Reads k first l.committed H s' i (transaction_named l.committed i)) (sym e) (past i low);
           now =
               λ h tx p.
               subst (λ H. Reads k first l.committed H s' (length l.committed) tx) (sym e)
@@ -110,30 +110,30 @@ module _ (k : Kind) (first : Lines) where
 
   module _ (l : Ledger) (lines : Lines) (s : k.State) (H : History l lines s) (w : ℕ) where
     -- A transaction begins.
-    pub begun : l.current w ≡ None → w < 32 → (stamp : ℕ) → History (begins l w stamp) lines s
+    pub begun : l.current w ≡ None → w < 32 → (stamp : ℕ) → History (with_begun l w stamp) lines s
     begun none low stamp =
-        changed l w (Some (record { stamp = stamp; warp = w; deeds = [] })) (hold l) lines s holds H.core
+        changed l w (Some (record { stamp = stamp; warp = w; actions = [] })) (hold l) lines s holds H.core
         H.past (λ h tx n e. H.now h tx e)
         (λ tx e. (fresh tx e, (fresh_warp tx e, low))) H.here
       where
         fresh :
-            (tx : Transaction) → Some (record { stamp = stamp; warp = w; deeds = [] }) ≡ Some tx
+            (tx : Transaction) → Some (record { stamp = stamp; warp = w; actions = [] }) ≡ Some tx
             → Reads k first l.committed (hold l) s (length l.committed) tx
         fresh tx e =
-            let p : record { stamp = stamp; warp = w; deeds = [] } ≡ tx = cc in
+            let p : record { stamp = stamp; warp = w; actions = [] } ≡ tx = cc in
             subst (Reads k first l.committed (hold l) s (length l.committed)) p tt
 
-        fresh_warp : (tx : Transaction) → Some (record { stamp = stamp; warp = w; deeds = [] }) ≡ Some tx → tx.warp ≡ w
+        fresh_warp : (tx : Transaction) → Some (record { stamp = stamp; warp = w; actions = [] }) ≡ Some tx → tx.warp ≡ w
         fresh_warp tx e =
-            let p : record { stamp = stamp; warp = w; deeds = [] } ≡ tx = cc in
+            let p : record { stamp = stamp; warp = w; actions = [] } ≡ tx = cc in
             ap (λ (t : Transaction). t.warp) (sym p)
 
-        holds : hold (begins l w stamp) ≡ hold l
+        holds : hold (with_begun l w stamp) ≡ hold l
         holds = fun_ext (λ h. fun_ext (λ line. step h line (eqb h w) refl))
           where
             step :
                 (h line : ℕ) (b : Bool) → eqb h w ≡ b
-                → hold_in (cond b (Some (record { stamp = stamp; warp = w; deeds = [] })) (l.current h)) line
+                → hold_in (cond b (Some (record { stamp = stamp; warp = w; actions = [] })) (l.current h)) line
                 ≡ hold_in (l.current h) line
             step h line true p = sym (ap (λ o. hold_in o line) (ap l.current (eqb-true h w p) ∙ none))
             step h line false p = refl
@@ -150,7 +150,7 @@ module _ (k : Kind) (first : Lines) where
       let_go o holds its =
           changed l w o (without_holds (hold l) w gone) lines s' holds
           (core_let_go k first l.committed (hold l) lines s s' w gone g H.core)
-          (λ i low. weaken i (named l.committed i) (H.past i low))
+          (λ i low. weaken i (transaction_named l.committed i) (H.past i low))
           (λ h tx n e. weaken (length l.committed) tx (H.now h tx e))
           its H.here
         where
@@ -158,12 +158,12 @@ module _ (k : Kind) (first : Lines) where
           weaken place tx r =
               each_weaker (ReadNow k first l.committed (hold l) s place tx.stamp tx.warp)
               (ReadNow k first l.committed (without_holds (hold l) w gone) s' place tx.stamp tx.warp)
-              (read_let_go k first l.committed (hold l) lines s s' w gone g place tx.stamp tx.warp) tx.deeds r
+              (read_let_go k first l.committed (hold l) lines s s' w gone g place tx.stamp tx.warp) tx.actions r
 
       -- It lets all its lines go.
       pub nothing_left :
           ((line t : ℕ) → hold l w line ≡ Some t → has line gone ≡ true)
-          → hold (ends_here l w) ≡ without_holds (hold l) w gone
+          → hold (without_current l w) ≡ without_holds (hold l) w gone
       nothing_left all = fun_ext (λ h. fun_ext (λ line. step h line (eqb h w) refl))
         where
           all_gone : (line : ℕ) (o : Option ℕ) → hold l w line ≡ o → cond (has line gone) None o ≡ None
@@ -186,25 +186,25 @@ module _ (k : Kind) (first : Lines) where
 
       -- A transaction ends without a commit.
       pub ended :
-          ((line t : ℕ) → hold l w line ≡ Some t → has line gone ≡ true) → History (ends_here l w) lines s'
+          ((line t : ℕ) → hold l w line ≡ Some t → has line gone ≡ true) → History (without_current l w) lines s'
       ended all =
           let_go None (nothing_left all) (λ tx e. let z : ◌≡◌ {A = ℕ} 0 1 = cc in absurd (omega arith))
 
     module _ (tx : Transaction) (mine : l.current w ≡ Some tx) where
-      -- One deed more, with a book that has moved on.
+      -- One action more, with a book that has moved on.
       joined :
-          (s' : k.State) (g : Grown k s s') (d : Deed)
-          → ((line : ℕ) → writes (d ∷ tx.deeds) line ≡ writes tx.deeds line)
+          (s' : k.State) (g : Grown k s s') (d : Action)
+          → ((line : ℕ) → is_written (d ∷ tx.actions) line ≡ is_written tx.actions line)
           → (Reads k first l.committed (hold l) s' (length l.committed) tx
-          → Reads k first l.committed (hold l) s' (length l.committed) (doing tx d))
-          → History (with_current l w (Some (doing tx d))) lines s'
+          → Reads k first l.committed (hold l) s' (length l.committed) (with_action tx d))
+          → History (with_current l w (Some (with_action tx d))) lines s'
       joined s' g d same more_reads =
-          changed l w (Some (doing tx d)) (hold l) lines s' holds
+          changed l w (Some (with_action tx d)) (hold l) lines s' holds
           (core_grown k first l.committed (hold l) lines s s' g H.core)
-          (λ i low. weaken i (named l.committed i) (H.past i low))
+          (λ i low. weaken i (transaction_named l.committed i) (H.past i low))
           (λ h t n e. weaken (length l.committed) t (H.now h t e))
           (λ t e.
-          let p : doing tx d ≡ t = cc in
+          let p : with_action tx d ≡ t = cc in
           let q = H.here w tx mine in (
             subst (Reads k first l.committed (hold l) s' (length l.committed)) p
                 (more_reads (weaken (length l.committed) tx (H.now w tx mine))),
@@ -218,32 +218,32 @@ module _ (k : Kind) (first : Lines) where
           weaken place t r =
               each_weaker (ReadNow k first l.committed (hold l) s place t.stamp t.warp)
               (ReadNow k first l.committed (hold l) s' place t.stamp t.warp)
-              (read_grown k first l.committed (hold l) lines s s' g place t.stamp t.warp) t.deeds r
+              (read_grown k first l.committed (hold l) lines s s' g place t.stamp t.warp) t.actions r
 
-          holds : hold (with_current l w (Some (doing tx d))) ≡ hold l
+          holds : hold (with_current l w (Some (with_action tx d))) ≡ hold l
           holds = fun_ext (λ h. fun_ext (λ line. step h line (eqb h w) refl))
             where
               step :
                   (h line : ℕ) (b : Bool) → eqb h w ≡ b
-                  → hold_in (cond b (Some (doing tx d)) (l.current h)) line ≡ hold_in (l.current h) line
+                  → hold_in (cond b (Some (with_action tx d)) (l.current h)) line ≡ hold_in (l.current h) line
               step h line true p =
                   ap (λ b. cond b (Some tx.stamp) None) (same line)
                   ∙ sym (ap (λ o. hold_in o line) (ap l.current (eqb-true h w p) ∙ mine))
               step h line false p = refl
 
       as_joined :
-          (d : Transaction → Deed)
-          → with_current l w (Some (doing tx (d tx)))
-          ≡ with_current l w (option_map (λ t. doing t (d t)) (l.current w))
-      as_joined d = ap (λ o. with_current l w (option_map (λ t. doing t (d t)) o)) (sym mine)
+          (d : Transaction → Action)
+          → with_current l w (Some (with_action tx (d tx)))
+          ≡ with_current l w (option_map (λ t. with_action t (d t)) (l.current w))
+      as_joined d = ap (λ o. with_current l w (option_map (λ t. with_action t (d t)) o)) (sym mine)
 
       -- A load of the transaction's own store.
       pub load_own :
-          (s' : k.State) → Grown k s s' → (line v : ℕ) → own_store tx.deeds line ≡ Some v
-          → History (joins_load l w line v) lines s'
+          (s' : k.State) → Grown k s s' → (line v : ℕ) → last_own_store tx.actions line ≡ Some v
+          → History (with_load l w line v) lines s'
       load_own s' g line v e =
-          subst (λ l'. History l' lines s') (as_joined (λ t. loaded (load_deed line v (load_found l.committed t line))))
-          (joined s' g (loaded (load_deed line v (load_found l.committed tx line))) (λ n. refl)
+          subst (λ l'. History l' lines s') (as_joined (λ t. loaded (load_action line v (load_found l.committed t line))))
+          (joined s' g (loaded (load_action line v (load_found l.committed tx line))) (λ n. refl)
           (λ r. (
             subst
                 (λ o.
@@ -256,13 +256,13 @@ module _ (k : Kind) (first : Lines) where
 
       -- A load of what others wrote.
       pub load_other :
-          (s' : k.State) → Grown k s s' → (line v : ℕ) → own_store tx.deeds line ≡ None
+          (s' : k.State) → Grown k s s' → (line v : ℕ) → last_own_store tx.actions line ≡ None
           → lines line ≡ Some v → line < line_limit → k.owner s line ≡ None → k.write_stamp s line ≤ tx.stamp
           → earlier (k.read_mark s' line) (tx.stamp, tx.warp) ≡ false
-          → History (joins_load l w line v) lines s'
+          → History (with_load l w line v) lines s'
       load_other s' g line v e value low nobody unwritten reached =
-          subst (λ l'. History l' lines s') (as_joined (λ t. loaded (load_deed line v (load_found l.committed t line))))
-          (joined s' g (loaded (load_deed line v (load_found l.committed tx line))) (λ n. refl)
+          subst (λ l'. History l' lines s') (as_joined (λ t. loaded (load_action line v (load_found l.committed t line))))
+          (joined s' g (loaded (load_action line v (load_found l.committed tx line))) (λ n. refl)
           (λ r. (
             subst
                 (λ o.
@@ -278,7 +278,7 @@ module _ (k : Kind) (first : Lines) where
               → seen (last_found (last_of (writers l.committed line))) ≤ j → ⊥
           late j wj above =
               let inside : has j (writers l.committed line) ≡ true =
-              kept_has (writer first l.committed line) j (upto (length l.committed))
+              kept_has (writer first l.committed line) j (numbers_below (length l.committed))
               (has_upto j (length l.committed)
               ∙ lt-ltb j (length l.committed) (writer_below first l.committed line j wj))
               wj
@@ -316,31 +316,31 @@ module _ (k : Kind) (first : Lines) where
 
       -- A store to a line that the transaction holds already.
       pub store_own :
-          (s' : k.State) → Grown k s s' → (line v u : ℕ) → own_store tx.deeds line ≡ Some u
-          → History (joins_store l w line v) lines s'
+          (s' : k.State) → Grown k s s' → (line v u : ℕ) → last_own_store tx.actions line ≡ Some u
+          → History (with_store l w line v) lines s'
       store_own s' g line v u e =
-          subst (λ l'. History l' lines s') (as_joined (λ t. stored (entry line v)))
-          (joined s' g (stored (entry line v)) (λ n. step n (eqb line n) refl) (λ r. r))
+          subst (λ l'. History l' lines s') (as_joined (λ t. stored (log_entry line v)))
+          (joined s' g (stored (log_entry line v)) (λ n. step n (eqb line n) refl) (λ r. r))
         where
           step :
               (n : ℕ) (b : Bool) → eqb line n ≡ b
-              → is_some (cond b (Some v) (own_store tx.deeds n)) ≡ is_some (own_store tx.deeds n)
-          step n true p = sym (ap is_some (ap (own_store tx.deeds) (sym (eqb-true line n p)) ∙ e))
+              → is_some (cond b (Some v) (last_own_store tx.actions n)) ≡ is_some (last_own_store tx.actions n)
+          step n true p = sym (ap is_some (ap (last_own_store tx.actions) (sym (eqb-true line n p)) ∙ e))
           step n false p = refl
 
       -- A store to a line that the transaction takes.
       pub store_new :
           (s' : k.State) (line v : ℕ) → Taken k s s' w line tx.stamp → is_some (lines line) ≡ true
-          → History (joins_store l w line v) lines s'
+          → History (with_store l w line v) lines s'
       store_new s' line v g there =
-          subst (λ l'. History l' lines s') (as_joined (λ t. stored (entry line v)))
-          (changed l w (Some (doing tx (stored (entry line v)))) (with_hold (hold l) w line tx.stamp) lines s' holds
+          subst (λ l'. History l' lines s') (as_joined (λ t. stored (log_entry line v)))
+          (changed l w (Some (with_action tx (stored (log_entry line v)))) (with_hold (hold l) w line tx.stamp) lines s' holds
           (core_taken k first l.committed (hold l) lines s s' w line tx.stamp g H.core there)
           (λ i low.
-          weaken i (named l.committed i) (H.core.warps i low) (H.past i low))
+          weaken i (transaction_named l.committed i) (H.core.warps i low) (H.past i low))
           (λ h t n e. weaken (length l.committed) t (warp_low h t e) (H.now h t e))
           (λ t e.
-          let p : doing tx (stored (entry line v)) ≡ t = cc in
+          let p : with_action tx (stored (log_entry line v)) ≡ t = cc in
           let q = H.here w tx mine in (
             subst (Reads k first l.committed (with_hold (hold l) w line tx.stamp) s' (length l.committed)) p
                 (weaken (length l.committed) tx (warp_low w tx mine) (H.now w tx mine)),
@@ -360,21 +360,21 @@ module _ (k : Kind) (first : Lines) where
               (λ n u f.
               read_taken k first l.committed (hold l) lines s s' w line tx.stamp g place t.stamp t.warp
               n u f low)
-              t.deeds r
+              t.actions r
 
-          holds : hold (with_current l w (Some (doing tx (stored (entry line v))))) ≡ with_hold (hold l) w line tx.stamp
+          holds : hold (with_current l w (Some (with_action tx (stored (log_entry line v))))) ≡ with_hold (hold l) w line tx.stamp
           holds = fun_ext (λ h. fun_ext (λ n. step h n (eqb h w) refl))
             where
               on_line :
                   (n : ℕ) (b : Bool)
-                  → cond (is_some (cond b (Some v) (own_store tx.deeds n))) (Some tx.stamp) None
+                  → cond (is_some (cond b (Some v) (last_own_store tx.actions n))) (Some tx.stamp) None
                   ≡ cond b (Some tx.stamp) (hold_in (Some tx) n)
               on_line n true = refl
               on_line n false = refl
 
               step :
                   (h n : ℕ) (b : Bool) → eqb h w ≡ b
-                  → hold_in (cond b (Some (doing tx (stored (entry line v)))) (l.current h)) n
+                  → hold_in (cond b (Some (with_action tx (stored (log_entry line v)))) (l.current h)) n
                   ≡ cond (b && eqb n line) (Some tx.stamp) (hold_in (l.current h) n)
               step h n true p =
                   on_line n (eqb line n)
@@ -387,15 +387,15 @@ module _ (k : Kind) (first : Lines) where
       pub committed :
           (gone : List ℕ) (s' : k.State) → LetGo k (hold l) s s' w gone
           → ((line t : ℕ) → hold l w line ≡ Some t → has line gone ≡ true)
-          → History (commits l w) (written lines (stores_of tx.deeds)) s'
+          → History (with_committed l w) (lines_after_stores lines (transaction_stores tx.actions)) s'
       committed gone s' g all =
           subst
           (λ o.
-          History (record { current = (ends_here l w).current; committed = l.committed ++ as_list o })
-          (written lines (stores_of tx.deeds)) s')
+          History (record { current = (without_current l w).current; committed = l.committed ++ as_list o })
+          (lines_after_stores lines (transaction_stores tx.actions)) s')
           (sym mine) closed
         where
-          held_at : (line : ℕ) → writes tx.deeds line ≡ true → hold l w line ≡ Some tx.stamp
+          held_at : (line : ℕ) → is_written tx.actions line ≡ true → hold l w line ≡ Some tx.stamp
           held_at line x = ap (λ o. hold_in o line) mine ∙ hold_writes tx line x
 
           warp_is : tx.warp ≡ w
@@ -405,7 +405,7 @@ module _ (k : Kind) (first : Lines) where
           warp_low = let q = H.here w tx mine in let a = q.0 in let b = q.1 in omega arith
 
           ready :
-              (line : ℕ) → writes tx.deeds line ≡ true
+              (line : ℕ) → is_written tx.actions line ≡ true
               → Ready k first l.committed (without_holds (hold l) w gone) lines s' tx line
           ready line x =
               let old = H.core.holder w line tx.stamp (held_at line x) in
@@ -440,9 +440,9 @@ module _ (k : Kind) (first : Lines) where
               d)
 
           Late : ℕ → Transaction → Type 0
-          Late place t = Reads k first (l.committed ++ tx ∷ []) (hold (ends_here l w)) s' place t
+          Late place t = Reads k first (l.committed ++ tx ∷ []) (hold (without_current l w)) s' place t
 
-          holds : hold (ends_here l w) ≡ without_holds (hold l) w gone
+          holds : hold (without_current l w) ≡ without_holds (hold l) w gone
           holds = nothing_left gone s' g all
 
           reads_more :
@@ -451,34 +451,34 @@ module _ (k : Kind) (first : Lines) where
               → (key_of t ≤ key_of tx → (length l.committed ≡ place' → ⊥)
               → Earlier (key_of t) place' (key_of tx) (length l.committed))
               → Reads k first l.committed (hold l) s place t
-              → Reads k first (l.committed ++ tx ∷ []) (hold (ends_here l w)) s' place' t
+              → Reads k first (l.committed ++ tx ∷ []) (hold (without_current l w)) s' place' t
           reads_more place place' t moved newer r =
               subst (λ H. Reads k first (l.committed ++ tx ∷ []) H s' place' t) (sym holds)
               (each_weaker (ReadNow k first l.committed (hold l) s place t.stamp t.warp)
               (ReadNow k first (l.committed ++ tx ∷ []) (without_holds (hold l) w gone) s' place' t.stamp t.warp)
-              (λ line v f. later place place' t.stamp t.warp line v f moved newer) t.deeds r)
+              (λ line v f. later place place' t.stamp t.warp line v f moved newer) t.actions r)
 
           one_more : length (l.committed ++ tx ∷ []) ≡ suc (length l.committed)
           one_more = let e = length_push l.committed tx in omega arith
 
           past_now :
               (i : ℕ) → i < length (l.committed ++ tx ∷ [])
-              → Late i (named (l.committed ++ tx ∷ []) i)
+              → Late i (transaction_named (l.committed ++ tx ∷ []) i)
           past_now i low = step (cases_lt i (length l.committed))
             where
               step :
                   (i < length l.committed) ⊎ (length l.committed ≤ i)
-                  → Late i (named (l.committed ++ tx ∷ []) i)
+                  → Late i (transaction_named (l.committed ++ tx ∷ []) i)
               step (inl p) =
-                  subst (Reads k first (l.committed ++ tx ∷ []) (hold (ends_here l w)) s' i)
+                  subst (Reads k first (l.committed ++ tx ∷ []) (hold (without_current l w)) s' i)
                   (sym (named_old first l.committed tx i p))
-                  (reads_more i i (named l.committed i) (inl refl) (λ a d. (a, λ b. p)) (H.past i p))
+                  (reads_more i i (transaction_named l.committed i) (inl refl) (λ a d. (a, λ b. p)) (H.past i p))
               step (inr p) =
                   let e : length l.committed ≡ i = omega (arith, one_more) in
                   subst
-                  (λ j. Late j (named (l.committed ++ tx ∷ []) j))
+                  (λ j. Late j (transaction_named (l.committed ++ tx ∷ []) j))
                   e
-                  (subst (Reads k first (l.committed ++ tx ∷ []) (hold (ends_here l w)) s' (length l.committed))
+                  (subst (Reads k first (l.committed ++ tx ∷ []) (hold (without_current l w)) s' (length l.committed))
                   (sym (named_new first l.committed tx))
                   (reads_more (length l.committed) (length l.committed) tx (inl refl)
                   (λ a d. absurd (d refl)) (H.now w tx mine)))
@@ -489,7 +489,7 @@ module _ (k : Kind) (first : Lines) where
           now_now h t n e =
               let q = H.here h t e in
               let r = H.here w tx mine in
-              subst (λ place. Reads k first (l.committed ++ tx ∷ []) (hold (ends_here l w)) s' place t) (sym one_more)
+              subst (λ place. Reads k first (l.committed ++ tx ∷ []) (hold (without_current l w)) s' place t) (sym one_more)
               (reads_more (length l.committed) (suc (length l.committed)) t (inr (refl, refl))
               (λ a d.
               let b : key_of t < key_of tx =
@@ -500,12 +500,12 @@ module _ (k : Kind) (first : Lines) where
               (H.now h t e))
 
           closed :
-              History (record { current = (ends_here l w).current; committed = l.committed ++ tx ∷ [] })
-              (written lines (stores_of tx.deeds)) s'
+              History (record { current = (without_current l w).current; committed = l.committed ++ tx ∷ [] })
+              (lines_after_stores lines (transaction_stores tx.actions)) s'
           closed =
               record {
                 core =
-                    subst (λ H. Core k first (l.committed ++ tx ∷ []) H (written lines (stores_of tx.deeds)) s')
+                    subst (λ H. Core k first (l.committed ++ tx ∷ []) H (lines_after_stores lines (transaction_stores tx.actions)) s')
                     (sym holds)
                     (core_more k first l.committed (without_holds (hold l) w gone) lines s' tx
                     (core_let_go k first l.committed (hold l) lines s s' w gone g H.core) warp_low ready);

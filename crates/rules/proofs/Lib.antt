@@ -9,7 +9,7 @@ mod Tallies
 mod Verdicts
 mod Logs
 mod Invariant
-mod Moves
+mod OneWarp
 mod Tries
 mod Calls
 pub mod AccountsLaw

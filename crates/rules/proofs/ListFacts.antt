@@ -2,7 +2,7 @@
 use Rattle.std.proofs.Common.{◌≡◌, ℕ, zero, suc, ◌+◌, ◌<◌, ◌≤◌, Bool, true, false, cond, ◌&&◌, ◌||◌, eqb, ltb, ◌⊎◌, List, [], ◌∷◌, ◌++◌, Some, None, fold, filter, sym, refl, ap, ◌∙◌, subst, inl, inr, ⊎_elim, arith}
 use Rattle.std.proofs.lemmas.Bool.{both_ways, eqb-true, eq-eqb, ne_eqb, cases_Bool, cases_order, lt-ltb, le-ltb, ltb-true, or_left, or_right, or_cases, or_parts, and_parts}
 use Rattle.std.proofs.lemmas.Bool.Decides.{nat_tests}
-use Rattle.rules.specs.Lists.{has, last_of, upto, occurrences, stands_before}
+use Rattle.rules.specs.Lists.{has, last_of, numbers_below, occurrences, is_before}
 
 -- `eqb` is symmetric and reflexive.
 pub eqb_sym : (a b : ℕ) → eqb a b ≡ eqb b a
@@ -67,10 +67,10 @@ pub has_of_kept :
     (t : ℕ → Bool) (z : ℕ) (xs : List ℕ) → has z (filter t xs) ≡ true → (has z xs ≡ true) × (t z ≡ true)
 has_of_kept t z xs h = and_parts (has z xs) (t z) (sym (has_kept t z xs) ∙ h)
 
-pub has_upto : (z n : ℕ) → has z (upto n) ≡ ltb z n
+pub has_upto : (z n : ℕ) → has z (numbers_below n) ≡ ltb z n
 has_upto z zero = sym (le-ltb z 0 (omega arith))
 has_upto z (suc n) =
-    has_append z (upto n) (n ∷ [])
+    has_append z (numbers_below n) (n ∷ [])
     ∙ ap (λ b. b || (eqb n z || false)) (has_upto z n) ∙ grind (arith, nat_tests)
 
 -- What stands once.
@@ -127,17 +127,17 @@ split_at z (x ∷ xs) h = step (eqb x z) refl h (split_at z xs)
         record { front = x ∷ s.front; back = s.back; whole = ap (λ l. x ∷ l) s.whole }
 
 -- What stands before what.
-pub before_has : (xs : List ℕ) (a b : ℕ) → stands_before xs a b ≡ true → has b xs ≡ true
+pub before_has : (xs : List ℕ) (a b : ℕ) → is_before xs a b ≡ true → has b xs ≡ true
 before_has [] a b h = absurd (both_ways false refl h)
 before_has (x ∷ xs) a b h = step (eqb x a) h (before_has xs a b)
   where
     step :
-        (e : Bool) → cond e (has b xs) (stands_before xs a b) ≡ true
-        → (stands_before xs a b ≡ true → has b xs ≡ true) → (eqb x b || has b xs) ≡ true
+        (e : Bool) → cond e (has b xs) (is_before xs a b) ≡ true
+        → (is_before xs a b ≡ true → has b xs ≡ true) → (eqb x b || has b xs) ≡ true
     step true p rest = or_right (eqb x b) (has b xs) p
     step false p rest = or_right (eqb x b) (has b xs) (rest p)
 
-pub front_before : (p q : List ℕ) (a b : ℕ) → has a p ≡ true → stands_before (p ++ b ∷ q) a b ≡ true
+pub front_before : (p q : List ℕ) (a b : ℕ) → has a p ≡ true → is_before (p ++ b ∷ q) a b ≡ true
 front_before [] q a b h = absurd (both_ways false refl h)
 front_before (x ∷ p) q a b h = step (eqb x a) h (front_before p q a b)
   where
@@ -148,34 +148,34 @@ front_before (x ∷ p) q a b h = step (eqb x a) h (front_before p q a b)
 
     step :
         (e : Bool) → (e || has a p) ≡ true
-        → (has a p ≡ true → stands_before (p ++ b ∷ q) a b ≡ true)
-        → cond e (has b (p ++ b ∷ q)) (stands_before (p ++ b ∷ q) a b) ≡ true
+        → (has a p ≡ true → is_before (p ++ b ∷ q) a b ≡ true)
+        → cond e (has b (p ++ b ∷ q)) (is_before (p ++ b ∷ q) a b) ≡ true
     step true k rest = at_b
     step false k rest = rest k
 
 -- At the place of a, what stands after it is what the back holds.
-pub before_at : (p q : List ℕ) (a b : ℕ) → has a p ≡ false → stands_before (p ++ a ∷ q) a b ≡ has b q
-before_at [] q a b h = ap (λ e. cond e (has b q) (stands_before q a b)) (eqb_same a)
+pub before_at : (p q : List ℕ) (a b : ℕ) → has a p ≡ false → is_before (p ++ a ∷ q) a b ≡ has b q
+before_at [] q a b h = ap (λ e. cond e (has b q) (is_before q a b)) (eqb_same a)
 before_at (x ∷ p) q a b h =
     let k = or_parts (eqb x a) (has a p) h in
-    ap (λ e. cond e (has b (p ++ a ∷ q)) (stands_before (p ++ a ∷ q) a b)) k.0
+    ap (λ e. cond e (has b (p ++ a ∷ q)) (is_before (p ++ a ∷ q) a b)) k.0
     ∙ before_at p q a b k.1
 
 -- What stands before b, where b stands once, is in the front.
 pub before_in_front :
     (p q : List ℕ) (a b : ℕ) → has b p ≡ false → has b q ≡ false
-    → stands_before (p ++ b ∷ q) a b ≡ true → has a p ≡ true
+    → is_before (p ++ b ∷ q) a b ≡ true → has a p ≡ true
 before_in_front [] q a b h k s = step (eqb b a) s
   where
-    step : (e : Bool) → cond e (has b q) (stands_before q a b) ≡ true → false ≡ true
+    step : (e : Bool) → cond e (has b q) (is_before q a b) ≡ true → false ≡ true
     step true r = sym k ∙ r
     step false r = absurd (both_ways (has b q) k (before_has q a b r))
 before_in_front (x ∷ p) q a b h k s =
     step (eqb x a) s (before_in_front p q a b (or_parts (eqb x b) (has b p) h).1 k)
   where
     step :
-        (e : Bool) → cond e (has b (p ++ b ∷ q)) (stands_before (p ++ b ∷ q) a b) ≡ true
-        → (stands_before (p ++ b ∷ q) a b ≡ true → has a p ≡ true) → (e || has a p) ≡ true
+        (e : Bool) → cond e (has b (p ++ b ∷ q)) (is_before (p ++ b ∷ q) a b) ≡ true
+        → (is_before (p ++ b ∷ q) a b ≡ true → has a p ≡ true) → (e || has a p) ≡ true
     step true r rest = refl
     step false r rest = rest r
 
@@ -223,17 +223,17 @@ rising_push (x ∷ xs) z h k = (
         let a : x < z = k x (or_left (eqb x x) (has x xs) (eqb_same x)) in
         omega (arith, eqb-true z y (or_false (eqb z y) p))
 
-pub kept_upto_rises : (t : ℕ → Bool) (n : ℕ) → Rising (filter t (upto n))
+pub kept_upto_rises : (t : ℕ → Bool) (n : ℕ) → Rising (filter t (numbers_below n))
 kept_upto_rises t zero = tt
 kept_upto_rises t (suc n) =
-    subst Rising (sym (kept_append t (upto n) (n ∷ []))) (step (t n) (kept_upto_rises t n))
+    subst Rising (sym (kept_append t (numbers_below n) (n ∷ []))) (step (t n) (kept_upto_rises t n))
   where
-    below : (y : ℕ) → has y (filter t (upto n)) ≡ true → y < n
-    below y h = ltb-true y n (sym (has_upto y n) ∙ (has_of_kept t y (upto n) h).0)
+    below : (y : ℕ) → has y (filter t (numbers_below n)) ≡ true → y < n
+    below y h = ltb-true y n (sym (has_upto y n) ∙ (has_of_kept t y (numbers_below n) h).0)
 
-    step : (b : Bool) → Rising (filter t (upto n)) → Rising (filter t (upto n) ++ cond b (n ∷ []) [])
-    step true h = rising_push (filter t (upto n)) n h below
-    step false h = subst Rising (sym (append_nil (filter t (upto n)))) h
+    step : (b : Bool) → Rising (filter t (numbers_below n)) → Rising (filter t (numbers_below n) ++ cond b (n ∷ []) [])
+    step true h = rising_push (filter t (numbers_below n)) n h below
+    step false h = subst Rising (sym (append_nil (filter t (numbers_below n)))) h
 
 -- Two lists that rise and hold the same numbers are equal.
 pub rising_same :
@@ -277,7 +277,7 @@ rising_same (x ∷ xs) (y ∷ ys) h k e =
 pub rises_from_before :
     (t : ℕ → Bool) (xs : List ℕ) → Once xs
     → ((a b : ℕ) → t a ≡ true → t b ≡ true → has a xs ≡ true → has b xs ≡ true → a < b
-    → stands_before xs a b ≡ true)
+    → is_before xs a b ≡ true)
     → Rising (filter t xs)
 rises_from_before t [] once first = tt
 rises_from_before t (x ∷ xs) once first =
@@ -294,8 +294,8 @@ rises_from_before t (x ∷ xs) once first =
     other a h = ne_eqb x a (λ e. both_ways (has a xs) (subst (λ z. has z xs ≡ false) e fresh) h)
 
     in_rest :
-        (a b : ℕ) → has a xs ≡ true → stands_before (x ∷ xs) a b ≡ true → stands_before xs a b ≡ true
-    in_rest a b h k = sym (ap (λ e. cond e (has b xs) (stands_before xs a b)) (other a h)) ∙ k
+        (a b : ℕ) → has a xs ≡ true → is_before (x ∷ xs) a b ≡ true → is_before xs a b ≡ true
+    in_rest a b h k = sym (ap (λ e. cond e (has b xs) (is_before xs a b)) (other a h)) ∙ k
 
     above : t x ≡ true → (y : ℕ) → has y (filter t xs) ≡ true → x < y
     above p y h = pick (cases_order x y)
@@ -322,7 +322,7 @@ rises_from_before t (x ∷ xs) once first =
 -- And the other way round.
 pub before_from_rises :
     (t : ℕ → Bool) (xs : List ℕ) (a b : ℕ) → Rising (filter t xs) → t a ≡ true → t b ≡ true
-    → has a xs ≡ true → has b xs ≡ true → a < b → stands_before xs a b ≡ true
+    → has a xs ≡ true → has b xs ≡ true → a < b → is_before xs a b ≡ true
 before_from_rises t [] a b r p q ha hb l = absurd (both_ways false refl ha)
 before_from_rises t (x ∷ xs) a b r p q ha hb l =
     step (eqb x a) refl ha (λ k m. before_from_rises t xs a b (tail_rises (t x) r) p q k m l)
@@ -344,8 +344,8 @@ before_from_rises t (x ∷ xs) a b r p q ha hb l =
 
     step :
         (e : Bool) → eqb x a ≡ e → (e || has a xs) ≡ true
-        → (has a xs ≡ true → has b xs ≡ true → stands_before xs a b ≡ true)
-        → cond e (has b xs) (stands_before xs a b) ≡ true
+        → (has a xs ≡ true → has b xs ≡ true → is_before xs a b ≡ true)
+        → cond e (has b xs) (is_before xs a b) ≡ true
     step true e k rest = in_tail (λ f. omega (arith, eqb-true x a e))
     step false e k rest = rest k (in_tail (not_b k))
 

@@ -7,19 +7,19 @@ use Rattle.book.specs.Meaning.{Kind}
 use Rattle.rules.specs.declared.state.Phase.TheVariants.{Idle, Open, Waiting, Settled}
 use Rattle.rules.specs.declared.state.Request.{Request}
 use Rattle.rules.specs.Lists.{has, push_new}
-use Rattle.rules.specs.Logs.{LogEntry, last_stored, lines_in, logged_lines}
-use Rattle.rules.specs.State.{WarpRow, Machine, idle_at, is_idle, is_waiting, warp_row_of, with_warp_row}
-use Rattle.rules.specs.Queue.{request_of, without}
-use Rattle.rules.specs.Transactions.{Deed, loaded, stored, own_store, writes, stores_of}
+use Rattle.rules.specs.Logs.{LogEntry, last_stored, entry_lines, logged_lines}
+use Rattle.rules.specs.State.{WarpRow, Machine, idle_row, is_idle, is_waiting, warp_row_of, with_warp_row}
+use Rattle.rules.specs.Queue.{request_of, queue_without}
+use Rattle.rules.specs.Transactions.{Action, loaded, stored, last_own_store, is_written, transaction_stores}
 use Rattle.rules.proofs.ListFacts.{eqb_same, has_append}
 
 -- The last value logged is the transaction's own.
-pub logged_own : (deeds : List Deed) (line : ℕ) → last_stored (stores_of deeds) line ≡ own_store deeds line
+pub logged_own : (actions : List Action) (line : ℕ) → last_stored (transaction_stores actions) line ≡ last_own_store actions line
 logged_own [] line = refl
-logged_own (loaded d ∷ deeds) line = logged_own deeds line
-logged_own (stored s ∷ deeds) line =
-    fold_push (λ found (e : LogEntry). cond (eqb e.line line) (Some e.value) found) None (stores_of deeds) s
-    ∙ ap (λ o. cond (eqb s.line line) (Some s.value) o) (logged_own deeds line)
+logged_own (loaded d ∷ actions) line = logged_own actions line
+logged_own (stored s ∷ actions) line =
+    fold_push (λ found (e : LogEntry). cond (eqb e.line line) (Some e.value) found) None (transaction_stores actions) s
+    ∙ ap (λ o. cond (eqb s.line line) (Some s.value) o) (logged_own actions line)
 
 -- The logged lines are those that the transaction stored to.
 has_push_new : (z : ℕ) (seen : List ℕ) (x : ℕ) → has z (push_new seen x) ≡ (has z seen || eqb x z)
@@ -55,18 +55,18 @@ has_distinct_from z (x ∷ xs) seen =
     regroup true b c = refl
     regroup false b c = refl
 
-pub has_logged : (deeds : List Deed) (line : ℕ) → has line (logged_lines (stores_of deeds)) ≡ writes deeds line
-has_logged deeds line =
-    has_distinct_from line (lines_in (stores_of deeds)) [] ∙ in_log deeds
+pub has_logged : (actions : List Action) (line : ℕ) → has line (logged_lines (transaction_stores actions)) ≡ is_written actions line
+has_logged actions line =
+    has_distinct_from line (entry_lines (transaction_stores actions)) [] ∙ in_log actions
   where
-    in_log : (ds : List Deed) → has line (lines_in (stores_of ds)) ≡ writes ds line
+    in_log : (ds : List Action) → has line (entry_lines (transaction_stores ds)) ≡ is_written ds line
     in_log [] = refl
     in_log (loaded d ∷ ds) = in_log ds
     in_log (stored s ∷ ds) =
-        ap (has line) (map-append (λ (e : LogEntry). e.line) (stores_of ds) (s ∷ []))
-        ∙ has_append line (lines_in (stores_of ds)) (s.line ∷ [])
+        ap (has line) (map-append (λ (e : LogEntry). e.line) (transaction_stores ds) (s ∷ []))
+        ∙ has_append line (entry_lines (transaction_stores ds)) (s.line ∷ [])
         ∙ ap (λ b. b || (eqb s.line line || false)) (in_log ds)
-        ∙ step (eqb s.line line) (own_store ds line)
+        ∙ step (eqb s.line line) (last_own_store ds line)
       where
         step : (b : Bool) (o : Option ℕ) → (is_some o || (b || false)) ≡ is_some (cond b (Some s.value) o)
         step true None = refl
@@ -78,11 +78,11 @@ module _ {k : Kind} (m : Machine k) (w : ℕ) where
   -- A row that is put is there, and the others are as they were.
   pub warp_row_put :
       (warp_row : WarpRow) → w < length m.warp_rows → warp_row_of (with_warp_row m w warp_row) w ≡ warp_row
-  warp_row_put warp_row low = get_or-set_same m.warp_rows w warp_row (idle_at 0) low
+  warp_row_put warp_row low = get_or-set_same m.warp_rows w warp_row (idle_row 0) low
 
   pub warp_row_kept :
       (warp_row : WarpRow) (v : ℕ) → (v ≡ w → ⊥) → warp_row_of (with_warp_row m w warp_row) v ≡ warp_row_of m v
-  warp_row_kept warp_row v n = get_or-set_other m.warp_rows w v warp_row (idle_at 0) n
+  warp_row_kept warp_row v n = get_or-set_other m.warp_rows w v warp_row (idle_row 0) n
 
   -- A warp that is not idle is one of the machine's.
   pub busy_low : is_idle (warp_row_of m w).phase ≡ false → w < length m.warp_rows
@@ -91,7 +91,7 @@ module _ {k : Kind} (m : Machine k) (w : ℕ) where
       (λ g.
       absurd
       (both_ways (is_idle (warp_row_of m w).phase) e
-      (ap (λ (warp_row : WarpRow). is_idle warp_row.phase) (get_or_past m.warp_rows w (idle_at 0) g))))
+      (ap (λ (warp_row : WarpRow). is_idle warp_row.phase) (get_or_past m.warp_rows w (idle_row 0) g))))
       (cases_lt w (length m.warp_rows))
 
 pub waiting_busy : (p : Rattle.rules.specs.declared.state.Phase.Phase) → is_waiting p ≡ true → is_idle p ≡ false
@@ -122,13 +122,13 @@ request_mine (q ∷ queue) r e = step (eqb q.warp r.warp) e (request_mine queue 
 
 -- A request that leaves leaves the others' where they were.
 pub request_left :
-    (queue : List Request) (w v : ℕ) → (v ≡ w → ⊥) → request_of (without queue w) v ≡ request_of queue v
+    (queue : List Request) (w v : ℕ) → (v ≡ w → ⊥) → request_of (queue_without queue w) v ≡ request_of queue v
 request_left [] w v n = refl
 request_left (q ∷ queue) w v n = step (eqb q.warp w) refl (request_left queue w v n)
   where
     step :
-        (b : Bool) → eqb q.warp w ≡ b → request_of (without queue w) v ≡ request_of queue v
-        → request_of (cond (not b) (q ∷ without queue w) (without queue w)) v
+        (b : Bool) → eqb q.warp w ≡ b → request_of (queue_without queue w) v ≡ request_of queue v
+        → request_of (cond (not b) (q ∷ queue_without queue w) (queue_without queue w)) v
         ≡ cond (eqb q.warp v) (Some q) (request_of queue v)
     step true p rest =
         rest
@@ -137,12 +137,12 @@ request_left (q ∷ queue) w v n = step (eqb q.warp w) refl (request_left queue 
         (ne_eqb q.warp v (λ e. n (sym e ∙ eqb-true q.warp w p))))
     step false p rest = ap (λ o. cond (eqb q.warp v) (Some q) o) rest
 
-pub request_gone : (queue : List Request) (w : ℕ) → request_of (without queue w) w ≡ None
+pub request_gone : (queue : List Request) (w : ℕ) → request_of (queue_without queue w) w ≡ None
 request_gone [] w = refl
 request_gone (q ∷ queue) w = step (eqb q.warp w) refl (request_gone queue w)
   where
     step :
-        (b : Bool) → eqb q.warp w ≡ b → request_of (without queue w) w ≡ None
-        → request_of (cond (not b) (q ∷ without queue w) (without queue w)) w ≡ None
+        (b : Bool) → eqb q.warp w ≡ b → request_of (queue_without queue w) w ≡ None
+        → request_of (cond (not b) (q ∷ queue_without queue w) (queue_without queue w)) w ≡ None
     step true p rest = rest
-    step false p rest = ap (λ b. cond b (Some q) (request_of (without queue w) w)) p ∙ rest
+    step false p rest = ap (λ b. cond b (Some q) (request_of (queue_without queue w) w)) p ∙ rest

@@ -4,11 +4,11 @@ use Rattle.std.proofs.lemmas.Bool.{both_ways, eq-eqb, ne_eqb, cases_Bool, cases_
 use Rattle.std.proofs.lemmas.Bool.Decides.{nat_tests}
 use Rattle.std.proofs.lemmas.List.{get_or_past}
 use Rattle.memory.specs.Lines.{Lines}
-use Rattle.rules.specs.Lists.{has, last_of, upto, occurrences, stands_before}
-use Rattle.rules.specs.Transactions.{Found, own, by, at_first, Transaction, no_transaction, own_store, writes}
-use Rattle.rules.specs.Transactions.{reads_line, named, writers, last_found}
-use Rattle.rules.specs.Account.{Account, got_by, gets_alone, alone, account_of, EachOnce, EqualAccounts}
-use Rattle.rules.specs.LogicalTime.{before_in_time, InLogicalOrder}
+use Rattle.rules.specs.Lists.{has, last_of, numbers_below, occurrences, is_before}
+use Rattle.rules.specs.Transactions.{Found, own, by, at_first, Transaction, no_transaction, last_own_store, is_written}
+use Rattle.rules.specs.Transactions.{is_read, transaction_named, writers, last_found}
+use Rattle.rules.specs.Account.{Account, load_results, load_results_alone, serial_account, account_of, EachOnce, EqualAccounts}
+use Rattle.rules.specs.LogicalTime.{is_earlier, IsInLogicalOrder}
 use Rattle.rules.proofs.ListFacts.{has_append, has_kept, kept_has, kept_append, has_of_kept, has_upto, has_count, Once}
 use Rattle.rules.proofs.ListFacts.{once_apart, split_at, front_before, before_at, before_in_front, Rising, rising_left}
 use Rattle.rules.proofs.ListFacts.{rising_apart, kept_upto_rises, rising_same, rises_from_before, before_from_rises}
@@ -76,10 +76,10 @@ seen at_first = 0
 
 module _ (first : Lines) (txs : List Transaction) where
   abbrev pub stamp_at : ℕ → ℕ
-  stamp_at name = (named txs name).stamp
+  stamp_at name = (transaction_named txs name).stamp
 
   abbrev pub key_at : ℕ → ℕ
-  key_at name = key_of (named txs name)
+  key_at name = key_of (transaction_named txs name)
 
   -- A find names a committed writer of the line, or the first memory.
   abbrev pub Names : Found → ℕ → Type 0
@@ -101,12 +101,12 @@ module _ (first : Lines) (txs : List Transaction) where
 pub record Serial (first : Lines) (txs : List Transaction) (memory : Lines) : Type 0 where
   pub sorted :
       (line i j : ℕ) → i < j → writer first txs line i ≡ true → writer first txs line j ≡ true
-      → (named txs i).stamp < (named txs j).stamp
+      → (transaction_named txs i).stamp < (transaction_named txs j).stamp
   pub loads :
       (i : ℕ) → i < length txs
-      → EachLoad (Right first txs i (named txs i).stamp (named txs i).warp) (named txs i).deeds
+      → EachLoad (Right first txs i (transaction_named txs i).stamp (transaction_named txs i).warp) (transaction_named txs i).actions
   pub last : (line : ℕ) → memory line ≡ found_value first txs line (last_found (last_of (writers txs line)))
-  pub warps : (i : ℕ) → i < length txs → (named txs i).warp < 32
+  pub warps : (i : ℕ) → i < length txs → (transaction_named txs i).warp < 32
   pub there : (line i : ℕ) → writer first txs line i ≡ true → is_some (first line) ≡ true
 
 pub writer_below :
@@ -116,7 +116,7 @@ writer_below first txs line i h =
     (λ g.
     absurd
     (both_ways (writer first txs line i)
-    (ap (λ (tx : Transaction). writes tx.deeds line) (get_or_past txs i no_transaction g)) h))
+    (ap (λ (tx : Transaction). is_written tx.actions line) (get_or_past txs i no_transaction g)) h))
     (cases_lt i (length txs))
 
 module _ (first : Lines) (txs : List Transaction) (memory : Lines) (S : Serial first txs memory) where
@@ -131,20 +131,20 @@ module _ (first : Lines) (txs : List Transaction) (memory : Lines) (S : Serial f
 
   earlier_bit :
       (a b : ℕ) → a < n → b < n → Earlier (key_at first txs a) a (key_at first txs b) b
-      → before_in_time txs a b ≡ true
+      → is_earlier txs a b ≡ true
   earlier_bit a b ha hb e =
-      numbers_time (named txs a).stamp (named txs a).warp a (named txs b).stamp (named txs b).warp b
+      numbers_time (transaction_named txs a).stamp (transaction_named txs a).warp a (transaction_named txs b).stamp (transaction_named txs b).warp b
       (S.warps a ha) (S.warps b hb) e
 
   bit_earlier :
-      (a b : ℕ) → a < n → b < n → before_in_time txs a b ≡ true
+      (a b : ℕ) → a < n → b < n → is_earlier txs a b ≡ true
       → Earlier (key_at first txs a) a (key_at first txs b) b
   bit_earlier a b ha hb e =
-      time_numbers (named txs a).stamp (named txs a).warp a (named txs b).stamp (named txs b).warp b
+      time_numbers (transaction_named txs a).stamp (transaction_named txs a).warp a (transaction_named txs b).stamp (transaction_named txs b).warp b
       (S.warps a ha) (S.warps b hb) e
 
   stamp_earlier :
-      (a b : ℕ) → a < n → b < n → (named txs a).stamp < (named txs b).stamp
+      (a b : ℕ) → a < n → b < n → (transaction_named txs a).stamp < (transaction_named txs b).stamp
       → Earlier (key_at first txs a) a (key_at first txs b) b
   stamp_earlier a b ha hb l = let p = S.warps a ha in let q = S.warps b hb in omega arith
 
@@ -170,12 +170,12 @@ module _ (first : Lines) (txs : List Transaction) (memory : Lines) (S : Serial f
         step false e = omega arith
 
     -- Writers of a line, run in the order.
-    turned : (line : ℕ) (p : List ℕ) → (alone first txs p).line_writers line ≡ filter (wr line) p
+    turned : (line : ℕ) (p : List ℕ) → (serial_account first txs p).line_writers line ≡ filter (wr line) p
     turned line p = writers_alone first txs line p start
 
     valued :
         (line : ℕ) (p : List ℕ)
-        → (alone first txs p).last_values line
+        → (serial_account first txs p).last_values line
         ≡ found_value first txs line (last_found (last_of (filter (wr line) p)))
     valued line p = values_alone first txs line p start None refl (λ i h. S.there line i h)
 
@@ -204,16 +204,16 @@ module _ (first : Lines) (txs : List Transaction) (memory : Lines) (S : Serial f
             ∙ or_right (has i l) (has i (i ∷ [])) (or_left (eqb i i) false (eq-eqb i i refl))
 
     -- From logical order to equal accounts.
-    module _ (logical : InLogicalOrder txs order) where
+    module _ (logical : IsInLogicalOrder txs order) where
       writers_rise : (line : ℕ) → Rising (filter (wr line) order)
       writers_rise line =
           rises_from_before (wr line) order once
           (λ a b ta tb ha hb l.
           logical a b (below line a ta) (below line b tb) (
             line,
-            clash_left (wr line a) (reads_line (named txs a).deeds line) (wr line b)
-                (reads_line (named txs b).deeds line) ta
-                (or_left (wr line b) (reads_line (named txs b).deeds line) tb),
+            clash_left (wr line a) (is_read (transaction_named txs a).actions line) (wr line b)
+                (is_read (transaction_named txs b).actions line) ta
+                (or_left (wr line b) (is_read (transaction_named txs b).actions line) tb),
           )
           (earlier_bit a b (below line a ta) (below line b tb)
           (stamp_earlier a b (below line a ta) (below line b tb) (S.sorted line a b l ta tb))))
@@ -224,12 +224,12 @@ module _ (first : Lines) (txs : List Transaction) (memory : Lines) (S : Serial f
           (kept_upto_rises (wr line) n)
           (λ z.
           has_kept (wr line) z order ∙ ap (λ b. b && wr line z) (in_order z ∙ sym (has_upto z n))
-          ∙ sym (has_kept (wr line) z (upto n)))
+          ∙ sym (has_kept (wr line) z (numbers_below n)))
 
       -- What stands before a reader are just the writers that its find has seen.
       module _ (i : ℕ) (i_low : i < n) (p q : List ℕ) (cut : order ≡ p ++ i ∷ q) (line v : ℕ) (f : Found)
-          (right : Right first txs i (named txs i).stamp (named txs i).warp line v f)
-          (reader : reads_line (named txs i).deeds line ≡ true)
+          (right : Right first txs i (transaction_named txs i).stamp (transaction_named txs i).warp line v f)
+          (reader : is_read (transaction_named txs i).actions line ≡ true)
         where
           front_seen : (j : ℕ) → has j (filter (wr line) p) ≡ true → j < seen f
           front_seen j h = ⊎_elim (λ l. l) late (cases_lt j (seen f))
@@ -245,18 +245,18 @@ module _ (first : Lines) (txs : List Transaction) (memory : Lines) (S : Serial f
 
               late : seen f ≤ j → j < seen f
               late l =
-                  let first_i : stands_before order i j ≡ true =
+                  let first_i : is_before order i j ≡ true =
                   logical i j i_low (below line j j_writes) (
                     line,
-                    clash_right (wr line i) (reads_line (named txs i).deeds line) (wr line j)
-                        (reads_line (named txs j).deeds line)
-                        (or_right (wr line i) (reads_line (named txs i).deeds line) reader) j_writes,
+                    clash_right (wr line i) (is_read (transaction_named txs i).actions line) (wr line j)
+                        (is_read (transaction_named txs j).actions line)
+                        (or_right (wr line i) (is_read (transaction_named txs i).actions line) reader) j_writes,
                   )
                   (earlier_bit i j i_low (below line j j_writes) (right.after j j_writes l other))
                   in
                   let in_back : has j q ≡ true =
                   sym (before_at p q i j (not_front i p q cut))
-                  ∙ subst (λ o. stands_before o i j ≡ true) cut first_i
+                  ∙ subst (λ o. is_before o i j ≡ true) cut first_i
                   in
                   absurd
                   (once_apart j p (i ∷ q) (subst Once cut once) j_front
@@ -266,12 +266,12 @@ module _ (first : Lines) (txs : List Transaction) (memory : Lines) (S : Serial f
           seen_front j t l =
               kept_has (wr line) j p
               (before_in_front p q j i (not_front i p q cut) (not_back i p q cut)
-              (subst (λ o. stands_before o j i ≡ true) cut
+              (subst (λ o. is_before o j i ≡ true) cut
               (logical j i (below line j t) i_low (
                 line,
-                clash_left (wr line j) (reads_line (named txs j).deeds line) (wr line i)
-                    (reads_line (named txs i).deeds line) t
-                    (or_right (wr line i) (reads_line (named txs i).deeds line) reader),
+                clash_left (wr line j) (is_read (transaction_named txs j).actions line) (wr line i)
+                    (is_read (transaction_named txs i).actions line) t
+                    (or_right (wr line i) (is_read (transaction_named txs i).actions line) reader),
               )
               (earlier_bit j i (below line j t) i_low
               (stamp_earlier j i (below line j t) i_low (right.before j t l))))))
@@ -302,30 +302,30 @@ module _ (first : Lines) (txs : List Transaction) (memory : Lines) (S : Serial f
                   ⊎_elim (λ h. let l = up y h in absurd (omega arith)) (λ h. h)
                   (cases_Bool (has y (filter (wr line) p)))))
 
-          gets : ((alone first txs p).last_values line ≡ Some v)
-              × (last_found (last_of ((alone first txs p).line_writers line)) ≡ f)
+          gets : ((serial_account first txs p).last_values line ≡ Some v)
+              × (last_found (last_of ((serial_account first txs p).line_writers line)) ≡ f)
           gets = (
             valued line p ∙ ap (found_value first txs line) finds ∙ right.value,
             ap (λ l. last_found (last_of l)) (turned line p) ∙ finds,
           )
 
-      equal_loads : (i : ℕ) → i < n → got_by (named txs i).deeds ≡ (alone first txs order).loads i
+      equal_loads : (i : ℕ) → i < n → load_results (transaction_named txs i).actions ≡ (serial_account first txs order).loads i
       equal_loads i l =
           let s = split_at i order (stands i l) in
-          let deeds = (named txs i).deeds in
+          let actions = (transaction_named txs i).actions in
           let P : ℕ → ℕ → Found → Type 0 =
           λ line v f.
-          Right first txs i (named txs i).stamp (named txs i).warp line v f
-          × (reads_line deeds line ≡ true)
+          Right first txs i (transaction_named txs i).stamp (transaction_named txs i).warp line v f
+          × (is_read actions line ≡ true)
           in
-          gets_the_same P (alone first txs s.front)
-          (λ line v f r. gets i l s.front s.back s.whole line v f r.0 r.1) deeds
-          (each_read (Right first txs i (named txs i).stamp (named txs i).warp)
-          (λ line. reads_line deeds line ≡ true) deeds (λ line r. r) (S.loads i l))
+          gets_the_same P (serial_account first txs s.front)
+          (λ line v f r. gets i l s.front s.back s.whole line v f r.0 r.1) actions
+          (each_read (Right first txs i (transaction_named txs i).stamp (transaction_named txs i).warp)
+          (λ line. is_read actions line ≡ true) actions (λ line r. r) (S.loads i l))
           ∙ sym (loads_alone first txs i s.front s.back start (not_back i s.front s.back s.whole))
-          ∙ ap (λ o. (alone first txs o).loads i) (sym s.whole)
+          ∙ ap (λ o. (serial_account first txs o).loads i) (sym s.whole)
 
-      equal : EqualAccounts n (account_of txs memory) (alone first txs order)
+      equal : EqualAccounts n (account_of txs memory) (serial_account first txs order)
       equal =
           record {
             same_loads = equal_loads;
@@ -338,7 +338,7 @@ module _ (first : Lines) (txs : List Transaction) (memory : Lines) (S : Serial f
           }
 
     -- From equal accounts to logical order.
-    module _ (equal_accounts : EqualAccounts n (account_of txs memory) (alone first txs order)) where
+    module _ (equal_accounts : EqualAccounts n (account_of txs memory) (serial_account first txs order)) where
       same_turns : (line : ℕ) → filter (wr line) order ≡ writers txs line
       same_turns line = sym (turned line order) ∙ sym (equal_accounts.same_writers line)
 
@@ -348,21 +348,21 @@ module _ (first : Lines) (txs : List Transaction) (memory : Lines) (S : Serial f
       -- Of a transaction that loaded a line and never stored to it: what it found, alone and in the run.
       finding :
           (i line : ℕ) → i < n → (p q : List ℕ) → order ≡ p ++ i ∷ q
-          → reads_line (named txs i).deeds line ≡ true → wr line i ≡ false
-          → (v : ℕ) × (f : Found) × (Right first txs i (named txs i).stamp (named txs i).warp line v f
+          → is_read (transaction_named txs i).actions line ≡ true → wr line i ≡ false
+          → (v : ℕ) × (f : Found) × (Right first txs i (transaction_named txs i).stamp (transaction_named txs i).warp line v f
           × (f ≡ last_found (last_of (filter (wr line) p))))
       finding i line l p q cut r t =
-          let deeds = (named txs i).deeds in
-          let P : ℕ → ℕ → Found → Type 0 = Right first txs i (named txs i).stamp (named txs i).warp in
-          let e : got_by deeds ≡ gets_alone (alone first txs p) deeds =
-          equal_accounts.same_loads i l ∙ ap (λ o. (alone first txs o).loads i) cut
+          let actions = (transaction_named txs i).actions in
+          let P : ℕ → ℕ → Found → Type 0 = Right first txs i (transaction_named txs i).stamp (transaction_named txs i).warp in
+          let e : load_results actions ≡ load_results_alone (serial_account first txs p) actions =
+          equal_accounts.same_loads i l ∙ ap (λ o. (serial_account first txs o).loads i) cut
           ∙ loads_alone first txs i p q start (not_back i p q cut)
           in
           let g =
           found_elsewhere
-          (λ line v f. P line v f × (f ≡ last_found (last_of ((alone first txs p).line_writers line))))
-          line deeds r (no_store (own_store deeds line) t)
-          (finds_the_same P (alone first txs p) deeds e (S.loads i l))
+          (λ line v f. P line v f × (f ≡ last_found (last_of ((serial_account first txs p).line_writers line))))
+          line actions r (no_store (last_own_store actions line) t)
+          (finds_the_same P (serial_account first txs p) actions e (S.loads i l))
           in
           (g.0, g.1, (g.2.0, g.2.1 ∙ ap (λ ws. last_found (last_of ws)) (turned line p)))
         where
@@ -376,14 +376,14 @@ module _ (first : Lines) (txs : List Transaction) (memory : Lines) (S : Serial f
       parts_rise line i p q cut =
           subst Rising (ap (filter (wr line)) cut ∙ kept_append (wr line) p (i ∷ q)) (turns_rise line)
 
-      module _ (a b : ℕ) (a_low : a < n) (b_low : b < n) (line : ℕ) (time : before_in_time txs a b ≡ true) where
+      module _ (a b : ℕ) (a_low : a < n) (b_low : b < n) (line : ℕ) (time : is_earlier txs a b ≡ true) where
         apart : a ≡ b → ⊥
         apart e =
             let t = bit_earlier a b a_low b_low time in
             let k : key_at first txs a ≡ key_at first txs b = ap (key_at first txs) e in
             omega (arith, t.1)
 
-        both_write : wr line a ≡ true → wr line b ≡ true → stands_before order a b ≡ true
+        both_write : wr line a ≡ true → wr line b ≡ true → is_before order a b ≡ true
         both_write ta tb =
             before_from_rises (wr line) order a b (turns_rise line) ta tb (stands a a_low) (stands b b_low)
             (smaller (cases_order a b))
@@ -397,12 +397,12 @@ module _ (first : Lines) (txs : List Transaction) (memory : Lines) (S : Serial f
                 absurd (omega (arith, t.1, u.1, S.warps a a_low, S.warps b b_low, S.sorted line b a l tb ta))
 
         writer_first :
-            wr line a ≡ true → wr line b ≡ false → reads_line (named txs b).deeds line ≡ true
-            → stands_before order a b ≡ true
+            wr line a ≡ true → wr line b ≡ false → is_read (transaction_named txs b).actions line ≡ true
+            → is_before order a b ≡ true
         writer_first ta tb rb =
             let s = split_at b order (stands b b_low) in
             let g = finding b line b_low s.front s.back s.whole rb tb in
-            subst (λ o. stands_before o a b ≡ true) (sym s.whole)
+            subst (λ o. is_before o a b ≡ true) (sym s.whole)
             (front_before s.front s.back a b
             (in_front s.front s.back s.whole g.1 g.2.0.after g.2.1))
           where
@@ -441,18 +441,18 @@ module _ (first : Lines) (txs : List Transaction) (memory : Lines) (S : Serial f
                     (or_cases (has a p) (has a (b ∷ q)) (sym (has_append a p (b ∷ q)) ∙ in_whole))
 
         reader_first :
-            wr line a ≡ false → reads_line (named txs a).deeds line ≡ true → wr line b ≡ true
-            → stands_before order a b ≡ true
+            wr line a ≡ false → is_read (transaction_named txs a).actions line ≡ true → wr line b ≡ true
+            → is_before order a b ≡ true
         reader_first ta ra tb =
             let s = split_at a order (stands a a_low) in
             let g = finding a line a_low s.front s.back s.whole ra ta in
-            subst (λ o. stands_before o a b ≡ true) (sym s.whole)
+            subst (λ o. is_before o a b ≡ true) (sym s.whole)
             (before_at s.front s.back a b (not_front a s.front s.back s.whole)
             ∙ in_back s.front s.back s.whole g.1 g.2.0.before g.2.1)
           where
             in_back :
                 (p q : List ℕ) → order ≡ p ++ a ∷ q → (f : Found)
-                → ((j : ℕ) → wr line j ≡ true → j < seen f → stamp_at first txs j < (named txs a).stamp)
+                → ((j : ℕ) → wr line j ≡ true → j < seen f → stamp_at first txs j < (transaction_named txs a).stamp)
                 → f ≡ last_found (last_of (filter (wr line) p)) → has b q ≡ true
             in_back p q cut f sooner e =
                 by_cases (or_cases (has b p) (has b (a ∷ q)) (sym (has_append b p (a ∷ q)) ∙ in_whole))
@@ -467,7 +467,7 @@ module _ (first : Lines) (txs : List Transaction) (memory : Lines) (S : Serial f
                     let z : seen f ≡ suc j.0 = ap seen (e ∙ ap last_found j.1) in
                     let r = rising_left (filter (wr line) p) (filter (wr line) (a ∷ q)) (parts_rise line a p q cut) in
                     let top : b ≤ j.0 = last_tops (filter (wr line) p) j.0 b r j.1 k in
-                    let u : stamp_at first txs b < (named txs a).stamp = sooner b tb (omega arith) in
+                    let u : stamp_at first txs b < (transaction_named txs a).stamp = sooner b tb (omega arith) in
                     let t = bit_earlier a b a_low b_low time in
                     omega (arith, t.1, S.warps a a_low, S.warps b b_low)
 
@@ -476,24 +476,24 @@ module _ (first : Lines) (txs : List Transaction) (memory : Lines) (S : Serial f
                 by_cases (inr h) = sym (ap (λ c. c || has b q) (ne_eqb a b apart)) ∙ h
 
         stands_first :
-            Clashing (wr line a) (reads_line (named txs a).deeds line) (wr line b)
-            (reads_line (named txs b).deeds line)
-            → stands_before order a b ≡ true
+            Clashing (wr line a) (is_read (transaction_named txs a).actions line) (wr line b)
+            (is_read (transaction_named txs b).actions line)
+            → is_before order a b ≡ true
         stands_first (two_writers ta tb) = both_write ta tb
         stands_first (then_reader ta tb rb) = writer_first ta tb rb
         stands_first (reader_then ta ra tb) = reader_first ta ra tb
 
-      in_logical_order : InLogicalOrder txs order
+      in_logical_order : IsInLogicalOrder txs order
       in_logical_order a b a_low b_low clash time =
           stands_first a b a_low b_low clash.0 time
-          (clashing (wr clash.0 a) (reads_line (named txs a).deeds clash.0) (wr clash.0 b)
-          (reads_line (named txs b).deeds clash.0) clash.1)
+          (clashing (wr clash.0 a) (is_read (transaction_named txs a).actions clash.0) (wr clash.0 b)
+          (is_read (transaction_named txs b).actions clash.0) clash.1)
 
 -- The accounts agree exactly in the orders that keep logical time among those that clash.
 pub accounts_agree :
     (first : Lines) (txs : List Transaction) (memory : Lines) → Serial first txs memory
     → (order : List ℕ) → EachOnce order (length txs)
-    → (EqualAccounts (length txs) (account_of txs memory) (alone first txs order) → InLogicalOrder txs order)
-    × (InLogicalOrder txs order → EqualAccounts (length txs) (account_of txs memory) (alone first txs order))
+    → (EqualAccounts (length txs) (account_of txs memory) (serial_account first txs order) → IsInLogicalOrder txs order)
+    × (IsInLogicalOrder txs order → EqualAccounts (length txs) (account_of txs memory) (serial_account first txs order))
 accounts_agree first txs memory S order each =
     (in_logical_order first txs memory S order each, equal first txs memory S order each)

@@ -7,119 +7,119 @@ use Rattle.protocol.specs.Limits.{line_limit}
 use Rattle.memory.specs.Lines.{Lines}
 use Rattle.book.specs.Meaning.{Kind}
 use Rattle.rules.specs.Lists.{has}
-use Rattle.rules.specs.Logs.{entry}
-use Rattle.rules.specs.Transactions.{Deed, loaded, stored, Transaction, own_store, writes, stores_of, times_stored}
-use Rattle.rules.specs.Ledger.{Ledger, doing, with_current, begins}
+use Rattle.rules.specs.Logs.{log_entry}
+use Rattle.rules.specs.Transactions.{Action, loaded, stored, Transaction, last_own_store, is_written, transaction_stores, store_count}
+use Rattle.rules.specs.Ledger.{Ledger, with_action, with_current, with_begun}
 use Rattle.rules.proofs.ListFacts.{eqb_same}
 use Rattle.rules.proofs.Ledgers.{hold_in, hold, hold_writes, History, current_cases}
 
 -- What is stored to is counted, and no more often than there are stores.
-pub never_stored : (deeds : List Deed) (line : ℕ) → writes deeds line ≡ false → times_stored deeds line ≡ 0
+pub never_stored : (actions : List Action) (line : ℕ) → is_written actions line ≡ false → store_count actions line ≡ 0
 never_stored [] line h = refl
-never_stored (loaded d ∷ deeds) line h = never_stored deeds line h
-never_stored (stored s ∷ deeds) line h = step (eqb s.line line) h (never_stored deeds line)
+never_stored (loaded d ∷ actions) line h = never_stored actions line h
+never_stored (stored s ∷ actions) line h = step (eqb s.line line) h (never_stored actions line)
   where
     step :
-        (b : Bool) → is_some (cond b (Some s.value) (own_store deeds line)) ≡ false
-        → (writes deeds line ≡ false → times_stored deeds line ≡ 0) → cond b 1 0 + times_stored deeds line ≡ 0
+        (b : Bool) → is_some (cond b (Some s.value) (last_own_store actions line)) ≡ false
+        → (is_written actions line ≡ false → store_count actions line ≡ 0) → cond b 1 0 + store_count actions line ≡ 0
     step true p rest = absurd (both_ways true p refl)
     step false p rest = let e = rest p in omega arith
 
-pub once_stored : (deeds : List Deed) (line : ℕ) → writes deeds line ≡ true → 0 < times_stored deeds line
+pub once_stored : (actions : List Action) (line : ℕ) → is_written actions line ≡ true → 0 < store_count actions line
 once_stored [] line h = absurd (both_ways false refl h)
-once_stored (loaded d ∷ deeds) line h = once_stored deeds line h
-once_stored (stored s ∷ deeds) line h = step (eqb s.line line) h (once_stored deeds line)
+once_stored (loaded d ∷ actions) line h = once_stored actions line h
+once_stored (stored s ∷ actions) line h = step (eqb s.line line) h (once_stored actions line)
   where
     step :
-        (b : Bool) → is_some (cond b (Some s.value) (own_store deeds line)) ≡ true
-        → (writes deeds line ≡ true → 0 < times_stored deeds line) → 0 < cond b 1 0 + times_stored deeds line
+        (b : Bool) → is_some (cond b (Some s.value) (last_own_store actions line)) ≡ true
+        → (is_written actions line ≡ true → 0 < store_count actions line) → 0 < cond b 1 0 + store_count actions line
     step true p rest = omega arith
     step false p rest = let e = rest p in omega arith
 
-pub stored_at_most : (deeds : List Deed) (line : ℕ) → times_stored deeds line ≤ length (stores_of deeds)
+pub stored_at_most : (actions : List Action) (line : ℕ) → store_count actions line ≤ length (transaction_stores actions)
 stored_at_most [] line = omega arith
-stored_at_most (loaded d ∷ deeds) line = stored_at_most deeds line
-stored_at_most (stored s ∷ deeds) line = step (eqb s.line line) (stored_at_most deeds line)
+stored_at_most (loaded d ∷ actions) line = stored_at_most actions line
+stored_at_most (stored s ∷ actions) line = step (eqb s.line line) (stored_at_most actions line)
   where
     step :
-        (b : Bool) → times_stored deeds line ≤ length (stores_of deeds)
-        → cond b 1 0 + times_stored deeds line ≤ length (stores_of deeds ++ s ∷ [])
-    step true h = let e = length_push (stores_of deeds) s in omega arith
-    step false h = let e = length_push (stores_of deeds) s in omega arith
+        (b : Bool) → store_count actions line ≤ length (transaction_stores actions)
+        → cond b 1 0 + store_count actions line ≤ length (transaction_stores actions ++ s ∷ [])
+    step true h = let e = length_push (transaction_stores actions) s in omega arith
+    step false h = let e = length_push (transaction_stores actions) s in omega arith
 
 module _ (k : Kind) where
   -- The count of each held line is how often its holder's transaction stored to it.
   abbrev pub Tallied : Ledger → k.State → Type 0
   Tallied l s =
-      (h : ℕ) (tx : Transaction) → l.current h ≡ Some tx → (line : ℕ) → writes tx.deeds line ≡ true
-      → k.stores s line ≡ times_stored tx.deeds line
+      (h : ℕ) (tx : Transaction) → l.current h ≡ Some tx → (line : ℕ) → is_written tx.actions line ≡ true
+      → k.stores s line ≡ store_count tx.actions line
 
   module _ (first lines : Lines) (l : Ledger) (s s' : k.State) (H : History k first l lines s) (T : Tallied l s) where
     -- A line that a transaction stored to.
     held :
-        (h : ℕ) (tx : Transaction) → l.current h ≡ Some tx → (line : ℕ) → writes tx.deeds line ≡ true
+        (h : ℕ) (tx : Transaction) → l.current h ≡ Some tx → (line : ℕ) → is_written tx.actions line ≡ true
         → hold l h line ≡ Some tx.stamp
     held h tx e line w = ap (λ o. hold_in o line) e ∙ hold_writes tx line w
 
     low :
-        (h : ℕ) (tx : Transaction) → l.current h ≡ Some tx → (line : ℕ) → writes tx.deeds line ≡ true
+        (h : ℕ) (tx : Transaction) → l.current h ≡ Some tx → (line : ℕ) → is_written tx.actions line ≡ true
         → line < line_limit
     low h tx e line w = (H.core.holder h line tx.stamp (held h tx e line w)).line_low
 
     owned :
-        (h : ℕ) (tx : Transaction) → l.current h ≡ Some tx → (line : ℕ) → writes tx.deeds line ≡ true
+        (h : ℕ) (tx : Transaction) → l.current h ≡ Some tx → (line : ℕ) → is_written tx.actions line ≡ true
         → k.owner s line ≡ Some h
     owned h tx e line w = (H.core.holder h line tx.stamp (held h tx e line w)).owns
 
     -- A load changes no count.
     pub tally_load :
         ((line : ℕ) → line < line_limit → k.stores s' line ≡ k.stores s line)
-        → (w : ℕ) (deed : Transaction → Deed)
-        → ((tx : Transaction) (line : ℕ) → times_stored (deed tx ∷ tx.deeds) line ≡ times_stored tx.deeds line)
-        → ((tx : Transaction) (line : ℕ) → writes (deed tx ∷ tx.deeds) line ≡ writes tx.deeds line)
+        → (w : ℕ) (action : Transaction → Action)
+        → ((tx : Transaction) (line : ℕ) → store_count (action tx ∷ tx.actions) line ≡ store_count tx.actions line)
+        → ((tx : Transaction) (line : ℕ) → is_written (action tx ∷ tx.actions) line ≡ is_written tx.actions line)
         → (tx : Transaction) → l.current w ≡ Some tx
-        → Tallied (with_current l w (option_map (λ t. doing t (deed t)) (l.current w))) s'
-    tally_load same w deed times wrote tx mine h t e line x =
-        step (current_cases l w (option_map (λ t. doing t (deed t)) (l.current w)) h t e)
+        → Tallied (with_current l w (option_map (λ t. with_action t (action t)) (l.current w))) s'
+    tally_load same w action times wrote tx mine h t e line x =
+        step (current_cases l w (option_map (λ t. with_action t (action t)) (l.current w)) h t e)
       where
         step :
-            ((h ≡ w) × (option_map (λ t. doing t (deed t)) (l.current w) ≡ Some t))
+            ((h ≡ w) × (option_map (λ t. with_action t (action t)) (l.current w) ≡ Some t))
             ⊎ ((h ≡ w → ⊥) × (l.current h ≡ Some t))
-            → k.stores s' line ≡ times_stored t.deeds line
+            → k.stores s' line ≡ store_count t.actions line
         step (inl p) =
-            let q : Some (doing tx (deed tx)) ≡ Some t = sym (ap (option_map (λ t. doing t (deed t))) mine) ∙ p.1 in
-            let one : doing tx (deed tx) ≡ t = cc in
-            let y : writes tx.deeds line ≡ true =
-            sym (wrote tx line) ∙ subst (λ (u : Transaction). writes u.deeds line ≡ true) (sym one) x
+            let q : Some (with_action tx (action tx)) ≡ Some t = sym (ap (option_map (λ t. with_action t (action t))) mine) ∙ p.1 in
+            let one : with_action tx (action tx) ≡ t = cc in
+            let y : is_written tx.actions line ≡ true =
+            sym (wrote tx line) ∙ subst (λ (u : Transaction). is_written u.actions line ≡ true) (sym one) x
             in
             same line (low w tx mine line y) ∙ T w tx mine line y ∙ sym (times tx line)
-            ∙ ap (λ (u : Transaction). times_stored u.deeds line) one
+            ∙ ap (λ (u : Transaction). store_count u.actions line) one
         step (inr p) = same line (low h t p.1 line x) ∙ T h t p.1 line x
 
     -- A store adds one to its line's count, which nobody else holds.
     pub tally_store :
         (w at v : ℕ) (tx : Transaction) → l.current w ≡ Some tx
         → ((line : ℕ) → line < line_limit → (line ≡ at → ⊥) → k.stores s' line ≡ k.stores s line)
-        → k.stores s' at ≡ suc (times_stored tx.deeds at)
+        → k.stores s' at ≡ suc (store_count tx.actions at)
         → ((h : ℕ) → k.owner s at ≡ Some h → h ≡ w)
-        → Tallied (with_current l w (option_map (λ t. doing t (stored (entry at v))) (l.current w))) s'
+        → Tallied (with_current l w (option_map (λ t. with_action t (stored (log_entry at v))) (l.current w))) s'
     tally_store w at v tx mine same one_more only h t e line x =
-        step (current_cases l w (option_map (λ t. doing t (stored (entry at v))) (l.current w)) h t e)
+        step (current_cases l w (option_map (λ t. with_action t (stored (log_entry at v))) (l.current w)) h t e)
       where
         others :
-            (line ≡ at) ⊎ (line ≡ at → ⊥) → writes (stored (entry at v) ∷ tx.deeds) line ≡ true
-            → k.stores s' line ≡ times_stored (stored (entry at v) ∷ tx.deeds) line
+            (line ≡ at) ⊎ (line ≡ at → ⊥) → is_written (stored (log_entry at v) ∷ tx.actions) line ≡ true
+            → k.stores s' line ≡ store_count (stored (log_entry at v) ∷ tx.actions) line
         others (inl p) y =
             ap (k.stores s') p ∙ one_more
-            ∙ grow (times_stored tx.deeds at)
-            ∙ ap (λ z. cond (eqb at z) 1 0 + times_stored tx.deeds z) (sym p)
+            ∙ grow (store_count tx.actions at)
+            ∙ ap (λ z. cond (eqb at z) 1 0 + store_count tx.actions z) (sym p)
           where
             grow : (n : ℕ) → suc n ≡ cond (eqb at at) 1 0 + n
             grow n = let b : ◌≡◌ {A = ℕ} (cond (eqb at at) 1 0) 1 = ap (λ b. cond b 1 0) (eqb_same at) in omega arith
         others (inr p) y =
             let z : eqb at line ≡ false = ne_eqb at line (λ q. p (sym q)) in
-            let y' : writes tx.deeds line ≡ true =
-            sym (ap (λ b. is_some (cond b (Some v) (own_store tx.deeds line))) z) ∙ y
+            let y' : is_written tx.actions line ≡ true =
+            sym (ap (λ b. is_some (cond b (Some v) (last_own_store tx.actions line))) z) ∙ y
             in
             let b : ◌≡◌ {A = ℕ} (cond (eqb at line) 1 0) 0 = ap (λ b. cond b 1 0) z in
             let c = same line (low w tx mine line y') p in
@@ -127,16 +127,16 @@ module _ (k : Kind) where
             omega arith
 
         step :
-            ((h ≡ w) × (option_map (λ t. doing t (stored (entry at v))) (l.current w) ≡ Some t))
+            ((h ≡ w) × (option_map (λ t. with_action t (stored (log_entry at v))) (l.current w) ≡ Some t))
             ⊎ ((h ≡ w → ⊥) × (l.current h ≡ Some t))
-            → k.stores s' line ≡ times_stored t.deeds line
+            → k.stores s' line ≡ store_count t.actions line
         step (inl p) =
-            let q : Some (doing tx (stored (entry at v))) ≡ Some t =
-            sym (ap (option_map (λ t. doing t (stored (entry at v)))) mine) ∙ p.1
+            let q : Some (with_action tx (stored (log_entry at v))) ≡ Some t =
+            sym (ap (option_map (λ t. with_action t (stored (log_entry at v)))) mine) ∙ p.1
             in
-            let one : doing tx (stored (entry at v)) ≡ t = cc in
-            others (cases_eq line at) (subst (λ (u : Transaction). writes u.deeds line ≡ true) (sym one) x)
-            ∙ ap (λ (u : Transaction). times_stored u.deeds line) one
+            let one : with_action tx (stored (log_entry at v)) ≡ t = cc in
+            others (cases_eq line at) (subst (λ (u : Transaction). is_written u.actions line ≡ true) (sym one) x)
+            ∙ ap (λ (u : Transaction). store_count u.actions line) one
         step (inr p) =
             same line (low h t p.1 line x)
             (λ z. p.0 (only h (subst (λ n. k.owner s n ≡ Some h) z (owned h t p.1 line x))))
@@ -147,8 +147,8 @@ module _ (k : Kind) where
         (w : ℕ) (gone : List ℕ) (o : Option Transaction)
         → ((line : ℕ) → has line gone ≡ true → (t : ℕ) × (hold l w line ≡ Some t))
         → ((line : ℕ) → line < line_limit → has line gone ≡ false → k.stores s' line ≡ k.stores s line)
-        → ((tx : Transaction) → o ≡ Some tx → (line : ℕ) → writes tx.deeds line ≡ true
-        → k.stores s' line ≡ times_stored tx.deeds line)
+        → ((tx : Transaction) → o ≡ Some tx → (line : ℕ) → is_written tx.actions line ≡ true
+        → k.stores s' line ≡ store_count tx.actions line)
         → Tallied (with_current l w o) s'
     tally_let_go w gone o its same left h t e line x = step (current_cases l w o h t e)
       where
@@ -163,22 +163,22 @@ module _ (k : Kind) where
 
         step :
             ((h ≡ w) × (o ≡ Some t)) ⊎ ((h ≡ w → ⊥) × (l.current h ≡ Some t))
-            → k.stores s' line ≡ times_stored t.deeds line
+            → k.stores s' line ≡ store_count t.actions line
         step (inl p) = left t p.1 line x
         step (inr p) =
             same line (low h t p.1 line x) (not_gone p.0 p.1 (has line gone) refl) ∙ T h t p.1 line x
 
   -- A new transaction has stored nothing.
-  pub tally_begin : (l : Ledger) (s : k.State) → Tallied l s → (w stamp : ℕ) → Tallied (begins l w stamp) s
+  pub tally_begin : (l : Ledger) (s : k.State) → Tallied l s → (w stamp : ℕ) → Tallied (with_begun l w stamp) s
   tally_begin l s T w stamp h t e line x =
-      step (current_cases l w (Some (record { stamp = stamp; warp = w; deeds = [] })) h t e)
+      step (current_cases l w (Some (record { stamp = stamp; warp = w; actions = [] })) h t e)
     where
       step :
-          ((h ≡ w) × (Some (record { stamp = stamp; warp = w; deeds = [] }) ≡ Some t))
+          ((h ≡ w) × (Some (record { stamp = stamp; warp = w; actions = [] }) ≡ Some t))
           ⊎ ((h ≡ w → ⊥) × (l.current h ≡ Some t))
-          → k.stores s line ≡ times_stored t.deeds line
+          → k.stores s line ≡ store_count t.actions line
       step (inl p) =
           let q = p.1 in
-          let one : record { stamp = stamp; warp = w; deeds = [] } ≡ t = cc in
-          absurd (both_ways false refl (subst (λ (u : Transaction). writes u.deeds line ≡ true) (sym one) x))
+          let one : record { stamp = stamp; warp = w; actions = [] } ≡ t = cc in
+          absurd (both_ways false refl (subst (λ (u : Transaction). is_written u.actions line ≡ true) (sym one) x))
       step (inr p) = T h t p.1 line x

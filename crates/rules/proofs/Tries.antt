@@ -5,25 +5,27 @@ use Rattle.std.proofs.lemmas.List.Sums.{fold_push}
 use Rattle.std.proofs.lemmas.Bool.{both_ways, eqb-true, eq-eqb, or_cases}
 use Rattle.std.specs.Option.{option_map}
 use Rattle.protocol.specs.Limits.{line_limit}
-use Rattle.protocol.specs.declared.answer.Outcome.TheVariants.{Gone as Lost}
+use Rattle.protocol.specs.declared.answer.Outcome.TheVariants.{Gone as OutcomeGone}
 use Rattle.memory.specs.Lines.{Lines}
 use Rattle.book.specs.Meaning.{Kind, Keeps}
 use Rattle.rules.specs.declared.state.Access.{Access}
 use Rattle.rules.specs.declared.state.Access.TheVariants.{Read, Write}
 use Rattle.rules.specs.declared.state.Request.{Request}
 use Rattle.rules.specs.Lists.{has}
-use Rattle.rules.specs.Logs.{entry, logged_lines}
-use Rattle.rules.specs.State.{WarpRow, Machine, Settling, idle_at, is_idle, is_waiting, warp_row_of, time_of}
-use Rattle.rules.specs.Access.{Verdict, told, own_line, lost, must_wait, go_on, retried}
-use Rattle.rules.specs.Queue.{Policy, request_of, access_at, pending}
-use Rattle.rules.specs.Serving.{memory_value, serves}
-use Rattle.rules.specs.Ending.{Woken, settles, settling, tried, retries, tries, wakes, lets_go, gives_up, ends}
-use Rattle.rules.specs.Transactions.{Transaction, loaded, stored, load_deed}
-use Rattle.rules.specs.Ledger.{Ledger, doing, load_found, settles_one, comes_as}
+use Rattle.rules.specs.Logs.{log_entry, logged_lines}
+use Rattle.rules.specs.State.{WarpRow, Machine, Settling, idle_row, is_idle, is_waiting, warp_row_of, time_of}
+use Rattle.rules.specs.declared.verdict.Verdict.{Verdict}
+use Rattle.rules.specs.declared.verdict.Verdict.TheVariants.{OwnLine, Gone as VerdictGone, MustWait, GoOn}
+use Rattle.rules.specs.Access.{line_state, retried}
+use Rattle.rules.specs.Queue.{Policy, request_of, access_at, pending_access}
+use Rattle.rules.specs.Serving.{memory_value, served_on_free_line}
+use Rattle.rules.specs.Ending.{AfterTries, after_settling, settling, after_try, after_turn_with, after_turn, after_turns, without_lines, after_giving_up, after_end}
+use Rattle.rules.specs.Transactions.{Transaction, loaded, stored, load_action}
+use Rattle.rules.specs.Ledger.{Ledger, with_action, load_found, ledger_after_settling, ledger_after_outcome}
 use Rattle.rules.proofs.Verdicts.{Means, retried_means}
 use Rattle.rules.proofs.Logs.{waiting_busy}
 use Rattle.rules.proofs.Invariant.{Matches, Blocked, Waiter, Inv, exempt, current_mine}
-use Rattle.rules.proofs.Moves.{serves_keeps, settles_keeps, stalled}
+use Rattle.rules.proofs.OneWarp.{serves_keeps, settles_keeps, stalled}
 
 -- A row that is not idle has a transaction.
 pub has_transaction :
@@ -40,7 +42,7 @@ module _ {k : Kind} (m : Machine k) (w line : ℕ) where
     pub requested : request_of m.queue w ≡ Some request
     pub at_line : request.line ≡ line
 
-  pending_some : (access : Access) → pending m w line ≡ Some access → TriedAt
+  pending_some : (access : Access) → pending_access m w line ≡ Some access → TriedAt
   pending_some access e = step (is_waiting (warp_row_of m w).phase) refl (request_of m.queue w) refl e
     where
       at :
@@ -59,10 +61,10 @@ module _ {k : Kind} (m : Machine k) (w line : ℕ) where
       step false p o q h = let z : ◌≡◌ {A = ℕ} 0 1 = cc in absurd (omega arith)
 
   pending_none :
-      pending m w line ≡ None → is_waiting (warp_row_of m w).phase ≡ true → (r : Request)
+      pending_access m w line ≡ None → is_waiting (warp_row_of m w).phase ≡ true → (r : Request)
       → request_of m.queue w ≡ Some r → r.line ≡ line → ⊥
   pending_none e p r q at =
-      let a : pending m w line ≡ Some r.access =
+      let a : pending_access m w line ≡ Some r.access =
       ap (λ b. cond b (access_at (request_of m.queue w) line) None) p
       ∙ ap (λ o. access_at o line) q
       ∙ ap (λ b. cond b (Some r.access) None) (eq-eqb r.line line at)
@@ -72,35 +74,35 @@ module _ {k : Kind} (m : Machine k) (w line : ℕ) where
 
 module _ (k : Kind) (first : Lines) (keeps : Keeps k) (start : Ledger) where
   -- The account after some requests have come out.
-  abbrev pub told_by : Woken k → Ledger
-  told_by st = fold settles_one start st.settled
+  abbrev pub told_by : AfterTries k → Ledger
+  told_by st = fold ledger_after_settling start st.settled
 
   one_more :
-      (st : Woken k) (s : Settling)
-      → fold settles_one start (st.settled ++ s ∷ []) ≡ settles_one (told_by st) s
-  one_more st s = fold_push settles_one start st.settled s
+      (st : AfterTries k) (s : Settling)
+      → fold ledger_after_settling start (st.settled ++ s ∷ []) ≡ ledger_after_settling (told_by st) s
+  one_more st s = fold_push ledger_after_settling start st.settled s
 
   -- After a served request its warp still has a transaction.
   served_current :
       (m : Machine k) (l : Ledger) (w line : ℕ) (access : Access) (tx : Transaction) → l.current w ≡ Some tx
-      → (t : Transaction) × ((comes_as l w line access (serves m w line access).outcome).current w ≡ Some t)
-  unfolding serves
+      → (t : Transaction) × ((ledger_after_outcome l w line access (served_on_free_line m w line access).outcome).current w ≡ Some t)
+  unfolding served_on_free_line
   served_current m l w line Read tx mine = (
-    doing tx (loaded (load_deed line (memory_value m line) (load_found l.committed tx line))),
+    with_action tx (loaded (load_action line (memory_value m line) (load_found l.committed tx line))),
     current_mine k first l w
-        (option_map (λ t. doing t (loaded (load_deed line (memory_value m line) (load_found l.committed t line))))
+        (option_map (λ t. with_action t (loaded (load_action line (memory_value m line) (load_found l.committed t line))))
         (l.current w))
         ∙ ap
-        (option_map (λ t. doing t (loaded (load_deed line (memory_value m line) (load_found l.committed t line)))))
+        (option_map (λ t. with_action t (loaded (load_action line (memory_value m line) (load_found l.committed t line)))))
         mine,
   )
   served_current m l w line (Write value) tx mine = (
-    doing tx (stored (entry line value)),
-    current_mine k first l w (option_map (λ t. doing t (stored (entry line value))) (l.current w))
-        ∙ ap (option_map (λ t. doing t (stored (entry line value)))) mine,
+    with_action tx (stored (log_entry line value)),
+    current_mine k first l w (option_map (λ t. with_action t (stored (log_entry line value))) (l.current w))
+        ∙ ap (option_map (λ t. with_action t (stored (log_entry line value)))) mine,
   )
 
-  module _ (E E' : ℕ → ℕ → Type 0) (st : Woken k) (w line : ℕ) (I : Inv k first E st.machine (told_by st))
+  module _ (E E' : ℕ → ℕ → Type 0) (st : AfterTries k) (w line : ℕ) (I : Inv k first E st.machine (told_by st))
       (drop : (v n : ℕ) → E v n → E' v n ⊎ ((v ≡ w) × (n ≡ line)))
     where
       others : (v n : ℕ) → (v ≡ w → ⊥) → E v n → E' v n
@@ -130,19 +132,19 @@ module _ (k : Kind) (first : Lines) (keeps : Keeps k) (start : Ledger) where
 
         tried_keeps :
             (access : Access) (v : Verdict)
-            → Means ⊥ access (told k st.machine.book line) (time_of st.machine w) v
-            → Inv k first E' (tried st w line access v).machine (told_by (tried st w line access v))
-        unfolding tried
-        tried_keeps access own_line bad = absurd bad
-        tried_keeps access (lost cause next) u =
-            subst (Inv k first E' (settles st.machine w (Lost cause next)))
-            (sym (one_more st (settling w line access (Lost cause next)) ∙ lost_joins_nothing access))
-            (settles_keeps k first keeps E st.machine (told_by st) I w its.0 its.1 E' (Lost cause next) others)
+            → Means ⊥ access (line_state k st.machine.book line) (time_of st.machine w) v
+            → Inv k first E' (after_try st w line access v).machine (told_by (after_try st w line access v))
+        unfolding after_try
+        tried_keeps access OwnLine bad = absurd bad
+        tried_keeps access (VerdictGone cause next) u =
+            subst (Inv k first E' (after_settling st.machine w (OutcomeGone cause next)))
+            (sym (one_more st (settling w line access (OutcomeGone cause next)) ∙ lost_joins_nothing access))
+            (settles_keeps k first keeps E st.machine (told_by st) I w its.0 its.1 E' (OutcomeGone cause next) others)
           where
-            lost_joins_nothing : (a : Access) → comes_as (told_by st) w line a (Lost cause next) ≡ told_by st
+            lost_joins_nothing : (a : Access) → ledger_after_outcome (told_by st) w line a (OutcomeGone cause next) ≡ told_by st
             lost_joins_nothing Read = refl
             lost_joins_nothing (Write value) = refl
-        tried_keeps access must_wait stall =
+        tried_keeps access MustWait stall =
             exempt k first E E' st.machine (told_by st) I (λ v r p q e. keep v r q (drop v r.line e))
           where
             keep :
@@ -155,23 +157,23 @@ module _ (k : Kind) (first : Lines) (keeps : Keeps k) (start : Ledger) where
                 (subst (λ u. Blocked (told_by st) r.line (warp_row_of st.machine u).stamp) (sym p.0)
                 (subst (λ n. Blocked (told_by st) n (warp_row_of st.machine w).stamp) (sym p.1)
                 (stalled k first keeps E st.machine (told_by st) I w its.0 its.1 line low there stall)))
-        tried_keeps access go_on go =
+        tried_keeps access GoOn go =
             let served =
             serves_keeps k first keeps E st.machine (told_by st) I w its.0 its.1 line low there access go
             in
             let its_now = served_current st.machine (told_by st) w line access its.0 its.1 in
             subst
             (Inv k first E'
-            (settles (serves st.machine w line access).machine w (serves st.machine w line access).outcome))
-            (sym (one_more st (settling w line access (serves st.machine w line access).outcome)))
-            (settles_keeps k first keeps E (serves st.machine w line access).machine
-            (comes_as (told_by st) w line access (serves st.machine w line access).outcome) served w its_now.0
-            its_now.1 E' (serves st.machine w line access).outcome others)
+            (after_settling (served_on_free_line st.machine w line access).machine w (served_on_free_line st.machine w line access).outcome))
+            (sym (one_more st (settling w line access (served_on_free_line st.machine w line access).outcome)))
+            (settles_keeps k first keeps E (served_on_free_line st.machine w line access).machine
+            (ledger_after_outcome (told_by st) w line access (served_on_free_line st.machine w line access).outcome) served w its_now.0
+            its_now.1 E' (served_on_free_line st.machine w line access).outcome others)
 
       retries_keeps :
-          (o : Option Access) → pending st.machine w line ≡ o
-          → Inv k first E' (retries st w line o).machine (told_by (retries st w line o))
-      unfolding retries
+          (o : Option Access) → pending_access st.machine w line ≡ o
+          → Inv k first E' (after_turn_with st w line o).machine (told_by (after_turn_with st w line o))
+      unfolding after_turn_with
       retries_keeps None e =
           exempt k first E E' st.machine (told_by st) I (λ v r p q x. keep v r p q (drop v r.line x))
         where
@@ -188,11 +190,11 @@ module _ (k : Kind) (first : Lines) (keeps : Keeps k) (start : Ledger) where
               (subst (λ u. request_of st.machine.queue u ≡ Some r) x.0 q) x.1)
       retries_keeps (Some access) e =
           tried_keeps (pending_some st.machine w line access e) access
-          (retried access (told k st.machine.book line) (time_of st.machine w))
-          (retried_means ⊥ access (told k st.machine.book line) (time_of st.machine w))
+          (retried access (line_state k st.machine.book line) (time_of st.machine w))
+          (retried_means ⊥ access (line_state k st.machine.book line) (time_of st.machine w))
 
-      pub tries_keeps : Inv k first E' (tries line st w).machine (told_by (tries line st w))
-      tries_keeps = retries_keeps (pending st.machine w line) refl
+      pub tries_keeps : Inv k first E' (after_turn line st w).machine (told_by (after_turn line st w))
+      tries_keeps = retries_keeps (pending_access st.machine w line) refl
 
   module _ (policy : Policy k) (E₀ : Type 0)
       (covers : (m : Machine k) (w : ℕ) (r : Request) → request_of m.queue w ≡ Some r
@@ -203,13 +205,13 @@ module _ (k : Kind) (first : Lines) (keeps : Keeps k) (start : Ledger) where
       Still line turns lines v n = (E₀ ⊎ (has n lines ≡ true)) ⊎ ((n ≡ line) × (has v turns ≡ true))
 
       turns_keep :
-          (line : ℕ) (lines turns : List ℕ) (st : Woken k)
+          (line : ℕ) (lines turns : List ℕ) (st : AfterTries k)
           → Inv k first (Still line turns lines) st.machine (told_by st)
-          → Inv k first (Still line [] lines) (fold (tries line) st turns).machine
-          (told_by (fold (tries line) st turns))
+          → Inv k first (Still line [] lines) (fold (after_turn line) st turns).machine
+          (told_by (fold (after_turn line) st turns))
       turns_keep line lines [] st I = I
       turns_keep line lines (t ∷ turns) st I =
-          turns_keep line lines turns (tries line st t)
+          turns_keep line lines turns (after_turn line st t)
           (tries_keeps (Still line (t ∷ turns) lines) (Still line turns lines) st t line I (λ v n e. next v n e))
         where
           next :
@@ -220,15 +222,15 @@ module _ (k : Kind) (first : Lines) (keeps : Keeps k) (start : Ledger) where
               (or_cases (eqb t v) (has v turns) p.1)
 
       wakes_keeps :
-          (line : ℕ) (lines : List ℕ) (st : Woken k)
+          (line : ℕ) (lines : List ℕ) (st : AfterTries k)
           → Inv k first (λ v n. E₀ ⊎ (has n (line ∷ lines) ≡ true)) st.machine (told_by st)
-          → Inv k first (λ v n. E₀ ⊎ (has n lines ≡ true)) (wakes policy st line).machine
-          (told_by (wakes policy st line))
-      unfolding wakes
+          → Inv k first (λ v n. E₀ ⊎ (has n lines ≡ true)) (after_turns policy st line).machine
+          (told_by (after_turns policy st line))
+      unfolding after_turns
       wakes_keeps line lines st I =
           exempt k first (Still line [] lines) (λ v n. E₀ ⊎ (has n lines ≡ true))
-          (fold (tries line) st (policy.turns st.machine line)).machine
-          (told_by (fold (tries line) st (policy.turns st.machine line)))
+          (fold (after_turn line) st (policy.turns st.machine line)).machine
+          (told_by (fold (after_turn line) st (policy.turns st.machine line)))
           (turns_keep line lines (policy.turns st.machine line) st
           (exempt k first (λ v n. E₀ ⊎ (has n (line ∷ lines) ≡ true))
           (Still line (policy.turns st.machine line) lines) st.machine (told_by st) I
@@ -256,29 +258,29 @@ module _ (k : Kind) (first : Lines) (keeps : Keeps k) (start : Ledger) where
               (λ x. inl (inr x)) (or_cases (eqb line r.line) (has r.line lines) h)
 
       lines_keep :
-          (lines : List ℕ) (st : Woken k)
+          (lines : List ℕ) (st : AfterTries k)
           → Inv k first (λ v n. E₀ ⊎ (has n lines ≡ true)) st.machine (told_by st)
-          → Inv k first (λ v n. E₀) (fold (wakes policy) st lines).machine (told_by (fold (wakes policy) st lines))
+          → Inv k first (λ v n. E₀) (fold (after_turns policy) st lines).machine (told_by (fold (after_turns policy) st lines))
       lines_keep [] st I =
           exempt k first (λ v n. E₀ ⊎ (has n [] ≡ true)) (λ v n. E₀) st.machine (told_by st) I
           (λ v r p q e. inl (⊎_elim (λ x. x) (λ x. absurd (both_ways false refl x)) e))
-      lines_keep (line ∷ lines) st I = lines_keep lines (wakes policy st line) (wakes_keeps line lines st I)
+      lines_keep (line ∷ lines) st I = lines_keep lines (after_turns policy st line) (wakes_keeps line lines st I)
 
       -- Lines given up, with every try.
       pub gives_up_keeps :
           (m : Machine k) (w : ℕ) (warp_row : WarpRow) (lines : List ℕ)
-          → Inv k first (λ v n. E₀ ⊎ (has n lines ≡ true)) (lets_go m w warp_row lines) start
-          → Inv k first (λ v n. E₀) (gives_up policy m w warp_row lines).machine
-          (told_by (gives_up policy m w warp_row lines))
-      unfolding gives_up
+          → Inv k first (λ v n. E₀ ⊎ (has n lines ≡ true)) (without_lines m w warp_row lines) start
+          → Inv k first (λ v n. E₀) (after_giving_up policy m w warp_row lines).machine
+          (told_by (after_giving_up policy m w warp_row lines))
+      unfolding after_giving_up
       gives_up_keeps m w warp_row lines I =
-          lines_keep lines (record { machine = lets_go m w warp_row lines; settled = [] }) I
+          lines_keep lines (record { machine = without_lines m w warp_row lines; settled = [] }) I
 
       -- The end of a transaction.
       pub ends_keeps :
           (m : Machine k) (w stamp : ℕ)
           → Inv k first (λ v n. E₀ ⊎ (has n (logged_lines (warp_row_of m w).log) ≡ true))
-          (lets_go m w (idle_at stamp) (logged_lines (warp_row_of m w).log)) start
-          → Inv k first (λ v n. E₀) (ends policy m w stamp).machine (told_by (ends policy m w stamp))
-      unfolding ends
-      ends_keeps m w stamp I = gives_up_keeps m w (idle_at stamp) (logged_lines (warp_row_of m w).log) I
+          (without_lines m w (idle_row stamp) (logged_lines (warp_row_of m w).log)) start
+          → Inv k first (λ v n. E₀) (after_end policy m w stamp).machine (told_by (after_end policy m w stamp))
+      unfolding after_end
+      ends_keeps m w stamp I = gives_up_keeps m w (idle_row stamp) (logged_lines (warp_row_of m w).log) I

@@ -3,18 +3,18 @@ use Rattle.std.specs.Prelude.{◌≡◌, ℕ, true, List, [], ◌∷◌, map, le
 use Rattle.protocol.specs.declared.call.Call.{Call}
 use Rattle.memory.specs.Lines.{Lines, word_lines}
 use Rattle.book.specs.Exact.{exact, exact_new}
-use Rattle.protocol.specs.declared.answer.Outcome.TheVariants.{Value, Stored, Gone as Lost}
+use Rattle.protocol.specs.declared.answer.Outcome.TheVariants.{Value, Stored, Gone as OutcomeGone}
 use Rattle.rules.specs.declared.state.Phase.{Phase}
 use Rattle.rules.specs.declared.state.Phase.TheVariants.{Idle, Open, Waiting, Settled}
 use Rattle.rules.specs.State.{WarpRow, Machine}
-use Rattle.rules.specs.Queue.{product}
-use Rattle.rules.specs.Making.{make}
-use Rattle.rules.specs.Runs.{Run, goes_on}
-use Rattle.rules.specs.Logs.{entry}
-use Rattle.rules.specs.Transactions.{by, at_first, loaded, stored, load_deed, Transaction}
+use Rattle.rules.specs.Queue.{product_policy}
+use Rattle.rules.specs.Making.{new_machine}
+use Rattle.rules.specs.Runs.{Run, run_with_call}
+use Rattle.rules.specs.Logs.{log_entry}
+use Rattle.rules.specs.Transactions.{by, at_first, loaded, stored, load_action, Transaction}
 use Rattle.rules.specs.Ledger.{Ledger, ledger_of}
-use Rattle.rules.specs.Account.{account_of, alone, EqualAccounts}
-use Rattle.rules.specs.LogicalTime.{before_in_time, Clash}
+use Rattle.rules.specs.Account.{account_of, serial_account, EqualAccounts}
+use Rattle.rules.specs.LogicalTime.{is_earlier, Conflict}
 use Rattle.rules.specs.Laws.{Leads, WaitsEnd}
 use Rattle.rules.specs.Worked.{begin_by, load_by, store_by, commit_by, fetch_by, exact_run}
 
@@ -36,16 +36,16 @@ sample_commits s = (sample_ledger s).committed
 
 -- Of transactions between a first and a last memory: two clash, the first is earlier in logical time, and only with the
 -- first in front do the accounts agree.
-pub record Apart (first_memory : Lines) (txs : List Transaction) (last_memory : Lines) (a b : ℕ) : Type 0 where
-  pub clash : Clash txs a b
-  pub in_time : before_in_time txs a b ≡ true
-  pub agrees : EqualAccounts 2 (account_of txs last_memory) (alone first_memory txs (a ∷ b ∷ []))
-  pub differs : EqualAccounts 2 (account_of txs last_memory) (alone first_memory txs (b ∷ a ∷ [])) → ⊥
+pub record AgreeInOneOrder (first_memory : Lines) (txs : List Transaction) (last_memory : Lines) (a b : ℕ) : Type 0 where
+  pub clash : Conflict txs a b
+  pub in_time : is_earlier txs a b ≡ true
+  pub agrees : EqualAccounts 2 (account_of txs last_memory) (serial_account first_memory txs (a ∷ b ∷ []))
+  pub differs : EqualAccounts 2 (account_of txs last_memory) (serial_account first_memory txs (b ∷ a ∷ [])) → ⊥
 
 -- The same of a run that commits two.
-pub record TellsApart (s : Sample) (a b : ℕ) : Type 0 where
+pub record AgreesInOneOrder (s : Sample) (a b : ℕ) : Type 0 where
   pub commits_two : length (sample_commits s) ≡ 2
-  pub apart : Apart (word_lines s.values) (sample_commits s) (sample_run s).machine.lines a b
+  pub apart : AgreeInOneOrder (word_lines s.values) (sample_commits s) (sample_run s).machine.lines a b
 
 -- Two write one line.
 abbrev pub two_writers : Sample
@@ -57,7 +57,7 @@ two_writers =
     }
 
 abbrev pub TwoWriters : Type 0
-TwoWriters = TellsApart two_writers 0 1
+TwoWriters = AgreesInOneOrder two_writers 0 1
 
 -- One writes a line, and one that is later reads it.
 abbrev pub writer_reader : Sample
@@ -69,7 +69,7 @@ writer_reader =
     }
 
 abbrev pub WriterThenReader : Type 0
-WriterThenReader = TellsApart writer_reader 0 1
+WriterThenReader = AgreesInOneOrder writer_reader 0 1
 
 -- One reads a line, and one that is later writes it and commits first: the order of the commits does not agree, the
 -- order of logical time does.
@@ -82,7 +82,7 @@ reader_writer =
     }
 
 abbrev pub ReaderThenWriter : Type 0
-ReaderThenWriter = TellsApart reader_writer 1 0
+ReaderThenWriter = AgreesInOneOrder reader_writer 1 0
 
 -- One warp commits two transactions at one stamp: the place of the commit decides.
 abbrev pub same_stamp : Sample
@@ -94,7 +94,7 @@ same_stamp =
     }
 
 abbrev pub SameStamp : Type 0
-SameStamp = TellsApart same_stamp 0 1
+SameStamp = AgreesInOneOrder same_stamp 0 1
 
 -- A load waits for a commit, and found that very commit.
 abbrev pub settled_load : Sample
@@ -108,8 +108,8 @@ settled_load =
 abbrev pub SettledLoadFound : Type 0
 SettledLoadFound =
     sample_commits settled_load
-    ≡ record { stamp = 0; warp = 0; deeds = stored (entry 0 8) ∷ [] }
-    ∷ record { stamp = 3; warp = 1; deeds = loaded (load_deed 0 8 (by 0)) ∷ [] } ∷ []
+    ≡ record { stamp = 0; warp = 0; actions = stored (log_entry 0 8) ∷ [] }
+    ∷ record { stamp = 3; warp = 1; actions = loaded (load_action 0 8 (by 0)) ∷ [] } ∷ []
 
 -- Three wait in a chain: warp 3 for warp 2, warp 2 for warp 1, warp 1 for warp 0, which does not wait.
 abbrev pub chain : Sample
@@ -134,7 +134,7 @@ stamp_taken Open stamp = stamp
 stamp_taken Waiting stamp = stamp
 stamp_taken (Settled (Value value)) stamp = stamp
 stamp_taken (Settled Stored) stamp = stamp
-stamp_taken (Settled (Lost cause next)) stamp = next
+stamp_taken (Settled (OutcomeGone cause next)) stamp = next
 
 abbrev pub row_taken : WarpRow → WarpRow
 row_taken warp_row = record warp_row { stamp = stamp_taken warp_row.phase warp_row.stamp }
@@ -145,12 +145,12 @@ taken_early m = record m { warp_rows = map row_taken m.warp_rows }
 -- One call more of it, and a run.
 abbrev pub goes_on_early : Run exact → Call → Run exact
 goes_on_early r call =
-    let right = goes_on (product exact) r call in
+    let right = run_with_call (product_policy exact) r call in
     record right { machine = taken_early right.machine }
 
 abbrev pub run_early : Sample → Run exact
 run_early s =
-    fold goes_on_early (record { machine = make exact (word_lines s.values) exact_new s.stamps; events = [] }) s.calls
+    fold goes_on_early (record { machine = new_machine exact (word_lines s.values) exact_new s.stamps; events = [] }) s.calls
 
 -- Warps 1 and 2 wait for warp 0's line, both at stamp 5, and warp 3 at stamp 6 for a line of warp 2. Warp 0 commits: warp
 -- 1 takes the line, and warp 2's load comes out as gone, with the next stamp 7.
@@ -176,13 +176,13 @@ StampTakenEarly = WaitsEnd (run_early lost_holder).machine (ledger_of (run_early
 -- What a wrong machine might commit: both loaded 7, and both stored. No order explains it.
 abbrev pub lost_update : List Transaction
 lost_update =
-    record { stamp = 0; warp = 0; deeds = stored (entry 0 8) ∷ loaded (load_deed 0 7 at_first) ∷ [] }
-    ∷ record { stamp = 0; warp = 1; deeds = stored (entry 0 9) ∷ loaded (load_deed 0 7 at_first) ∷ [] } ∷ []
+    record { stamp = 0; warp = 0; actions = stored (log_entry 0 8) ∷ loaded (load_action 0 7 at_first) ∷ [] }
+    ∷ record { stamp = 0; warp = 1; actions = stored (log_entry 0 9) ∷ loaded (load_action 0 7 at_first) ∷ [] } ∷ []
 
 -- An order explains it if the accounts agree.
 abbrev pub Explains : List ℕ → Type 0
 Explains order =
-    EqualAccounts 2 (account_of lost_update (word_lines (9 ∷ []))) (alone (word_lines (7 ∷ [])) lost_update order)
+    EqualAccounts 2 (account_of lost_update (word_lines (9 ∷ []))) (serial_account (word_lines (7 ∷ [])) lost_update order)
 
 abbrev pub LostUpdateUnexplained : Type 0
 LostUpdateUnexplained = (Explains (0 ∷ 1 ∷ []) → ⊥) × (Explains (1 ∷ 0 ∷ []) → ⊥)

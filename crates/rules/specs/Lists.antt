@@ -10,17 +10,17 @@ has n (x ∷ xs) = x == n || has n xs
 abbrev pub push_new : List ℕ → ℕ → List ℕ
 push_new seen n = cond (has n seen) seen (seen ++ n ∷ [])
 
-abbrev pub distinct : List ℕ → List ℕ
-distinct ns = fold push_new [] ns
+abbrev pub distinct_numbers : List ℕ → List ℕ
+distinct_numbers ns = fold push_new [] ns
 
 -- The last of a list, if any.
 abbrev pub last_of : List ℕ → Option ℕ
 last_of ns = fold (λ _ n. Some n) None ns
 
 -- The numbers below a limit, smallest first.
-abbrev pub upto : ℕ → List ℕ
-upto zero = []
-upto (suc n) = upto n ++ n ∷ []
+abbrev pub numbers_below : ℕ → List ℕ
+numbers_below zero = []
+numbers_below (suc n) = numbers_below n ++ n ∷ []
 
 -- How often a number stands in a list.
 abbrev pub occurrences : ℕ → List ℕ → ℕ
@@ -28,6 +28,6 @@ occurrences n [] = 0
 occurrences n (x ∷ xs) = cond (x == n) 1 0 + occurrences n xs
 
 -- One number stands before another: the second comes after the first place of the first.
-abbrev pub stands_before : List ℕ → ℕ → ℕ → Bool
-stands_before [] a b = false
-stands_before (x ∷ xs) a b = cond (x == a) (has b xs) (stands_before xs a b)
+abbrev pub is_before : List ℕ → ℕ → ℕ → Bool
+is_before [] a b = false
+is_before (x ∷ xs) a b = cond (x == a) (has b xs) (is_before xs a b)

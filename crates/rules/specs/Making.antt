@@ -7,8 +7,8 @@ use Rattle.protocol.specs.declared.fault.Fault.{Fault}
 use Rattle.protocol.specs.declared.fault.Refusal.TheVariants.{BadSize, BadStamp}
 use Rattle.memory.specs.Lines.{Lines}
 use Rattle.book.specs.Meaning.{Kind}
-use Rattle.rules.specs.State.{WarpRow, Machine, idle_at}
-use Rattle.rules.specs.Refusals.{unless}
+use Rattle.rules.specs.State.{WarpRow, Machine, idle_row}
+use Rattle.rules.specs.Refusals.{fault_unless}
 
 -- The first of some stamps that lies past the end of the clock.
 abbrev pub first_late : List ℕ → Option ℕ
@@ -22,17 +22,17 @@ late_fault (Some stamp) = Some (fault_in_call BadStamp stamp)
 
 -- A machine that is refused has no warps, so it refuses every call.
 abbrev pub first_warp_rows : Option Fault → List ℕ → List WarpRow
-first_warp_rows None stamps = map idle_at stamps
+first_warp_rows None stamps = map idle_row stamps
 first_warp_rows (Some fault) stamps = []
 
 module _ (k : Kind) where
   -- A machine has from one warp to as many as may be, no first stamp past the end of the clock, and a new book.
   abbrev pub making_fault : k.State → List ℕ → Option Fault
   making_fault book stamps =
-      option_or (unless (nat_lt 0 (length stamps) && nat_le (length stamps) warp_limit) BadSize (length stamps))
-      (option_or (late_fault (first_late stamps)) (unless (k.latest book == 0) BadStamp (k.latest book)))
+      option_or (fault_unless (nat_lt 0 (length stamps) && nat_le (length stamps) warp_limit) BadSize (length stamps))
+      (option_or (late_fault (first_late stamps)) (fault_unless (k.latest book == 0) BadStamp (k.latest book)))
 
   -- Every warp is idle at its first stamp, and nobody waits.
-  abbrev pub make : Lines → k.State → List ℕ → Machine k
-  make lines book stamps =
+  abbrev pub new_machine : Lines → k.State → List ℕ → Machine k
+  new_machine lines book stamps =
       record { lines = lines; book = book; warp_rows = first_warp_rows (making_fault book stamps) stamps; queue = [] }

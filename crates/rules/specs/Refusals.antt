@@ -48,13 +48,13 @@ phase_refuses Waiting op = pending_refuses op
 phase_refuses (Settled outcome) op = pending_refuses op
 
 -- A refusal, if there is one, as it is told: with the layer that tells it and the offending number.
-abbrev pub faulty : Option Refusal → ℕ → Option Fault
-faulty None number = None
-faulty (Some why) number = Some (fault_in_call why number)
+abbrev pub refusal_fault : Option Refusal → ℕ → Option Fault
+refusal_fault None number = None
+refusal_fault (Some why) number = Some (fault_in_call why number)
 
 -- A call is refused if a test fails.
-abbrev pub unless : Bool → Refusal → ℕ → Option Fault
-unless test why number = cond test None (Some (fault_in_call why number))
+abbrev pub fault_unless : Bool → Refusal → ℕ → Option Fault
+fault_unless test why number = cond test None (Some (fault_in_call why number))
 
 module _ {k : Kind} where
   -- A line that a load or a store may name: the memory has it and a book can number it.
@@ -63,11 +63,11 @@ module _ {k : Kind} where
 
   -- A clock that is spent, a line that is lacking, a full log.
   abbrev pub number_fault : Machine k → ℕ → Op → Option Fault
-  number_fault m w Begin = unless (nat_le (warp_row_of m w).stamp last_stamp) ClockSpent (warp_row_of m w).stamp
-  number_fault m w (Load line) = unless (has_line m line) NoSuchLine line
+  number_fault m w Begin = fault_unless (nat_le (warp_row_of m w).stamp last_stamp) ClockSpent (warp_row_of m w).stamp
+  number_fault m w (Load line) = fault_unless (has_line m line) NoSuchLine line
   number_fault m w (Store line value) =
-      option_or (unless (has_line m line) NoSuchLine line)
-      (unless (nat_lt (length (warp_row_of m w).log) log_limit) LogFull (length (warp_row_of m w).log))
+      option_or (fault_unless (has_line m line) NoSuchLine line)
+      (fault_unless (nat_lt (length (warp_row_of m w).log) log_limit) LogFull (length (warp_row_of m w).log))
   number_fault m w Commit = None
   number_fault m w Drop = None
   number_fault m w Fetch = None
@@ -75,6 +75,6 @@ module _ {k : Kind} where
   -- All refusals, in the order of their numbers: the first is told.
   abbrev pub fault_of : Machine k → Call → Option Fault
   fault_of m call =
-      option_or (unless (nat_lt call.warp (length m.warp_rows)) NoSuchWarp call.warp)
-      (option_or (faulty (phase_refuses (warp_row_of m call.warp).phase call.op) call.warp)
+      option_or (fault_unless (nat_lt call.warp (length m.warp_rows)) NoSuchWarp call.warp)
+      (option_or (refusal_fault (phase_refuses (warp_row_of m call.warp).phase call.op) call.warp)
       (number_fault m call.warp call.op))

@@ -29,8 +29,8 @@ module _ {k : Kind} where
       { call = call; stamp = (warp_row_of m call.warp).stamp; answer = s.answer; settled = s.settled }
 
   -- One call more.
-  unfoldable pub goes_on : Policy k → Run k → Call → Run k
-  goes_on policy r call =
+  unfoldable pub run_with_call : Policy k → Run k → Call → Run k
+  run_with_call policy r call =
       record {
         machine = (step policy r.machine call).machine;
         events = r.events ++ event_of policy r.machine call ∷ [];
@@ -38,7 +38,7 @@ module _ {k : Kind} where
 
   -- All calls, from a machine on.
   abbrev pub run : Policy k → Machine k → List Call → Run k
-  run policy m calls = fold (goes_on policy) (record { machine = m; events = [] }) calls
+  run policy m calls = fold (run_with_call policy) (record { machine = m; events = [] }) calls
 
 -- All requests that came out in some events, in turn, and the last of them that was a warp's.
 abbrev pub settlings : List Event → List Settling

@@ -4,11 +4,11 @@ use Rattle.std.specs.Prelude.{ℕ}
 use Rattle.std.specs.Option.{unwrap_or}
 use Rattle.protocol.specs.declared.answer.Outcome.{Outcome}
 use Rattle.protocol.specs.declared.answer.Outcome.TheVariants.{Value, Stored}
-use Rattle.book.specs.Meaning.{Kind, noted, taken, added}
+use Rattle.book.specs.Meaning.{Kind, state_after_note, state_after_reserve, state_after_add}
 use Rattle.rules.specs.declared.state.Access.{Access}
 use Rattle.rules.specs.declared.state.Access.TheVariants.{Read, Write}
 use Rattle.rules.specs.Logs.{last_stored}
-use Rattle.rules.specs.State.{Machine, logging, warp_row_of, time_of, with_book, with_warp_row}
+use Rattle.rules.specs.State.{Machine, row_with_store, warp_row_of, time_of, with_book, with_warp_row}
 
 -- What a served load or store leaves.
 pub record Served (k : Kind) : Type 0 where
@@ -21,25 +21,25 @@ module _ {k : Kind} where
   memory_value m line = unwrap_or (m.lines line) 0
 
   -- The read is noted; the store is logged.
-  abbrev pub reads : Machine k → ℕ → ℕ → Machine k
-  reads m w line = with_book m (noted k m.book line (time_of m w))
+  abbrev pub with_read_noted : Machine k → ℕ → ℕ → Machine k
+  with_read_noted m w line = with_book m (state_after_note k m.book line (time_of m w))
 
-  abbrev pub logs : Machine k → ℕ → ℕ → ℕ → Machine k
-  logs m w line value = with_warp_row m w (logging (warp_row_of m w) line value)
+  abbrev pub with_store_logged : Machine k → ℕ → ℕ → ℕ → Machine k
+  with_store_logged m w line value = with_warp_row m w (row_with_store (warp_row_of m w) line value)
 
   -- On a line that is nobody's: a load gives the memory's value, a store reserves the line.
-  unfoldable pub serves : Machine k → ℕ → ℕ → Access → Served k
-  serves m w line Read = record { machine = reads m w line; outcome = Value (memory_value m line) }
-  serves m w line (Write value) =
-      record { machine = logs (with_book m (taken k m.book line (time_of m w))) w line value; outcome = Stored }
+  unfoldable pub served_on_free_line : Machine k → ℕ → ℕ → Access → Served k
+  served_on_free_line m w line Read = record { machine = with_read_noted m w line; outcome = Value (memory_value m line) }
+  served_on_free_line m w line (Write value) =
+      record { machine = with_store_logged (with_book m (state_after_reserve k m.book line (time_of m w))) w line value; outcome = Stored }
 
   -- On the warp's own line: a load gives the last value that it logged there, a store is added to the count. In a run
   -- an own line always has a logged value; without one the load would give the memory's.
-  unfoldable pub serves_own : Machine k → ℕ → ℕ → Access → Served k
-  serves_own m w line Read =
+  unfoldable pub served_on_own_line : Machine k → ℕ → ℕ → Access → Served k
+  served_on_own_line m w line Read =
       record {
-        machine = reads m w line;
+        machine = with_read_noted m w line;
         outcome = Value (unwrap_or (last_stored (warp_row_of m w).log line) (memory_value m line));
       }
-  serves_own m w line (Write value) =
-      record { machine = logs (with_book m (added k m.book line)) w line value; outcome = Stored }
+  served_on_own_line m w line (Write value) =
+      record { machine = with_store_logged (with_book m (state_after_add k m.book line)) w line value; outcome = Stored }

@@ -8,7 +8,7 @@ use Rattle.rules.specs.declared.state.Access.{Access}
 use Rattle.rules.specs.declared.state.Phase.{Phase}
 use Rattle.rules.specs.declared.state.Phase.TheVariants.{Idle, Open, Waiting, Settled}
 use Rattle.rules.specs.declared.state.Request.{Request}
-use Rattle.rules.specs.Logs.{LogEntry, entry}
+use Rattle.rules.specs.Logs.{LogEntry, log_entry}
 
 -- A warp's row: what it is doing; its stamp, by which its transactions are ordered in logical time; and its log: what
 -- its transaction stored, in the order made.
@@ -33,12 +33,12 @@ pub record Settling : Type 0 where
   pub outcome : Outcome
 
 -- A warp without a transaction.
-abbrev pub idle_at : ℕ → WarpRow
-idle_at stamp = record { phase = Idle; stamp = stamp; log = [] }
+abbrev pub idle_row : ℕ → WarpRow
+idle_row stamp = record { phase = Idle; stamp = stamp; log = [] }
 
 -- A warp with a transaction that has stored nothing yet.
-abbrev pub open_at : ℕ → WarpRow
-open_at stamp = record { phase = Open; stamp = stamp; log = [] }
+abbrev pub open_row : ℕ → WarpRow
+open_row stamp = record { phase = Open; stamp = stamp; log = [] }
 
 -- What a phase says.
 abbrev pub is_idle : Phase → Bool
@@ -54,15 +54,15 @@ is_waiting Waiting = true
 is_waiting (Settled outcome) = false
 
 -- A row in another phase; a row with one store more.
-abbrev pub in_phase : WarpRow → Phase → WarpRow
-in_phase warp_row phase = record warp_row { phase = phase }
+abbrev pub row_in_phase : WarpRow → Phase → WarpRow
+row_in_phase warp_row phase = record warp_row { phase = phase }
 
-abbrev pub logging : WarpRow → ℕ → ℕ → WarpRow
-logging warp_row line value = record warp_row { log = warp_row.log ++ entry line value ∷ [] }
+abbrev pub row_with_store : WarpRow → ℕ → ℕ → WarpRow
+row_with_store warp_row line value = record warp_row { log = warp_row.log ++ log_entry line value ∷ [] }
 
 -- A warp's row, among the rows of all; a warp that the machine lacks is taken for an idle one.
 abbrev pub warp_row_at : List WarpRow → ℕ → WarpRow
-warp_row_at warp_rows w = slice_index_or warp_rows w (idle_at 0)
+warp_row_at warp_rows w = slice_index_or warp_rows w (idle_row 0)
 
 module _ {k : Kind} where
   -- The row of a machine's warp.

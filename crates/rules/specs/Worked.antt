@@ -11,9 +11,9 @@ use Rattle.protocol.specs.declared.fault.Fault.{Fault}
 use Rattle.protocol.specs.declared.fault.Refusal.TheVariants.{WarpIdle, ClockSpent}
 use Rattle.memory.specs.Lines.{word_lines}
 use Rattle.book.specs.Exact.{exact, exact_new}
-use Rattle.rules.specs.Lists.{upto}
-use Rattle.rules.specs.Queue.{product}
-use Rattle.rules.specs.Making.{make}
+use Rattle.rules.specs.Lists.{numbers_below}
+use Rattle.rules.specs.Queue.{product_policy}
+use Rattle.rules.specs.Making.{new_machine}
 use Rattle.rules.specs.Runs.{Event, Run, run}
 
 -- Calls by warp, as a listing has them.
@@ -34,18 +34,18 @@ fetch_by w = record { warp = w; op = Fetch }
 
 -- The product's machine over the exact book turns some calls.
 abbrev pub exact_run : List ℕ → List ℕ → List Call → Run exact
-exact_run stamps values calls = run (product exact) (make exact (word_lines values) exact_new stamps) calls
+exact_run stamps values calls = run (product_policy exact) (new_machine exact (word_lines values) exact_new stamps) calls
 
 -- A row: a call, and its answer or its refusal.
 pub record Row : Type 0 where
   pub call : Call
   pub reply : Result Answer Fault
 
-abbrev pub says : Call → Answer → Row
-says call answer = record { call = call; reply = Ok answer }
+abbrev pub answered_row : Call → Answer → Row
+answered_row call answer = record { call = call; reply = Ok answer }
 
-abbrev pub refuses : Call → Fault → Row
-refuses call fault = record { call = call; reply = Err fault }
+abbrev pub refused_row : Call → Fault → Row
+refused_row call fault = record { call = call; reply = Err fault }
 
 -- A worked run: first stamps and line values, each call with its answer, and the line values at the end.
 pub record WorkedRun : Type 0 where
@@ -61,14 +61,14 @@ reads_after_commit =
       stamps = 0 ∷ 0 ∷ [];
       first_values = 7 ∷ [];
       rows =
-          says (begin_by 0) Done
-          ∷ says (begin_by 1) Done
-          ∷ says (store_by 0 0 9) Done
-          ∷ says (load_by 1 0) (Gone WrittenLater 2)
-          ∷ says (commit_by 0) Done
-          ∷ says (begin_by 1) Done
-          ∷ says (load_by 1 0) (Val 9)
-          ∷ refuses (load_by 0 0) (fault_in_call WarpIdle 0)
+          answered_row (begin_by 0) Done
+          ∷ answered_row (begin_by 1) Done
+          ∷ answered_row (store_by 0 0 9) Done
+          ∷ answered_row (load_by 1 0) (Gone WrittenLater 2)
+          ∷ answered_row (commit_by 0) Done
+          ∷ answered_row (begin_by 1) Done
+          ∷ answered_row (load_by 1 0) (Val 9)
+          ∷ refused_row (load_by 0 0) (fault_in_call WarpIdle 0)
           ∷ [];
       last_values = 9 ∷ [];
     }
@@ -80,13 +80,13 @@ older_reader =
       stamps = 20 ∷ 10 ∷ [];
       first_values = 100 ∷ 50 ∷ [];
       rows =
-          says (begin_by 0) Done
-          ∷ says (begin_by 1) Done
-          ∷ says (load_by 0 0) (Val 100)
-          ∷ says (store_by 0 0 90) Done
-          ∷ says (load_by 1 1) (Val 50)
-          ∷ says (store_by 1 1 40) Done
-          ∷ says (load_by 1 0) (Gone WrittenLater 22)
+          answered_row (begin_by 0) Done
+          ∷ answered_row (begin_by 1) Done
+          ∷ answered_row (load_by 0 0) (Val 100)
+          ∷ answered_row (store_by 0 0 90) Done
+          ∷ answered_row (load_by 1 1) (Val 50)
+          ∷ answered_row (store_by 1 1 40) Done
+          ∷ answered_row (load_by 1 0) (Gone WrittenLater 22)
           ∷ [];
       last_values = 100 ∷ 50 ∷ [];
     }
@@ -99,12 +99,12 @@ waits_for_commit =
       first_values = 100 ∷ 50 ∷ [];
       rows =
           older_reader.rows
-          ++ (says (load_by 0 1) (Val 50)
-          ∷ says (store_by 0 1 60) Done
-          ∷ says (begin_by 1) Done
-          ∷ says (load_by 1 1) Wait
-          ∷ says (commit_by 0) Done
-          ∷ says (fetch_by 1) (Val 60)
+          ++ (answered_row (load_by 0 1) (Val 50)
+          ∷ answered_row (store_by 0 1 60) Done
+          ∷ answered_row (begin_by 1) Done
+          ∷ answered_row (load_by 1 1) Wait
+          ∷ answered_row (commit_by 0) Done
+          ∷ answered_row (fetch_by 1) (Val 60)
           ∷ []);
       last_values = 90 ∷ 60 ∷ [];
     }
@@ -116,11 +116,11 @@ own_last_commit =
       stamps = 5 ∷ [];
       first_values = 7 ∷ [];
       rows =
-          says (begin_by 0) Done
-          ∷ says (store_by 0 0 8) Done
-          ∷ says (commit_by 0) Done
-          ∷ says (begin_by 0) Done
-          ∷ says (load_by 0 0) (Gone WrittenLater 7)
+          answered_row (begin_by 0) Done
+          ∷ answered_row (store_by 0 0 8) Done
+          ∷ answered_row (commit_by 0) Done
+          ∷ answered_row (begin_by 0) Done
+          ∷ answered_row (load_by 0 0) (Gone WrittenLater 7)
           ∷ [];
       last_values = 8 ∷ [];
     }
@@ -132,12 +132,12 @@ two_at_one_stamp =
       stamps = 0 ∷ 0 ∷ [];
       first_values = 1 ∷ 2 ∷ [];
       rows =
-          says (begin_by 0) Done
-          ∷ says (begin_by 1) Done
-          ∷ says (load_by 0 0) (Val 1)
-          ∷ says (load_by 1 1) (Val 2)
-          ∷ says (store_by 0 1 3) (Gone ReadLater 1)
-          ∷ says (store_by 1 0 4) Done
+          answered_row (begin_by 0) Done
+          ∷ answered_row (begin_by 1) Done
+          ∷ answered_row (load_by 0 0) (Val 1)
+          ∷ answered_row (load_by 1 1) (Val 2)
+          ∷ answered_row (store_by 0 1 3) (Gone ReadLater 1)
+          ∷ answered_row (store_by 1 0 4) Done
           ∷ [];
       last_values = 1 ∷ 2 ∷ [];
     }
@@ -149,18 +149,18 @@ line_is_full =
       stamps = 0 ∷ 1 ∷ 1 ∷ 1 ∷ 1 ∷ 1 ∷ [];
       first_values = 7 ∷ [];
       rows =
-          says (begin_by 0) Done
-          ∷ says (begin_by 1) Done
-          ∷ says (begin_by 2) Done
-          ∷ says (begin_by 3) Done
-          ∷ says (begin_by 4) Done
-          ∷ says (begin_by 5) Done
-          ∷ says (store_by 0 0 8) Done
-          ∷ says (load_by 1 0) Wait
-          ∷ says (load_by 2 0) Wait
-          ∷ says (load_by 3 0) Wait
-          ∷ says (load_by 4 0) Wait
-          ∷ says (load_by 5 0) (Gone QueueFull 1)
+          answered_row (begin_by 0) Done
+          ∷ answered_row (begin_by 1) Done
+          ∷ answered_row (begin_by 2) Done
+          ∷ answered_row (begin_by 3) Done
+          ∷ answered_row (begin_by 4) Done
+          ∷ answered_row (begin_by 5) Done
+          ∷ answered_row (store_by 0 0 8) Done
+          ∷ answered_row (load_by 1 0) Wait
+          ∷ answered_row (load_by 2 0) Wait
+          ∷ answered_row (load_by 3 0) Wait
+          ∷ answered_row (load_by 4 0) Wait
+          ∷ answered_row (load_by 5 0) (Gone QueueFull 1)
           ∷ [];
       last_values = 7 ∷ [];
     }
@@ -172,15 +172,15 @@ first_to_arrive =
       stamps = 0 ∷ 3 ∷ 3 ∷ [];
       first_values = 7 ∷ [];
       rows =
-          says (begin_by 0) Done
-          ∷ says (begin_by 1) Done
-          ∷ says (begin_by 2) Done
-          ∷ says (store_by 0 0 8) Done
-          ∷ says (store_by 2 0 9) Wait
-          ∷ says (load_by 1 0) Wait
-          ∷ says (commit_by 0) Done
-          ∷ says (fetch_by 2) Done
-          ∷ says (fetch_by 1) (Gone WrittenLater 5)
+          answered_row (begin_by 0) Done
+          ∷ answered_row (begin_by 1) Done
+          ∷ answered_row (begin_by 2) Done
+          ∷ answered_row (store_by 0 0 8) Done
+          ∷ answered_row (store_by 2 0 9) Wait
+          ∷ answered_row (load_by 1 0) Wait
+          ∷ answered_row (commit_by 0) Done
+          ∷ answered_row (fetch_by 2) Done
+          ∷ answered_row (fetch_by 1) (Gone WrittenLater 5)
           ∷ [];
       last_values = 8 ∷ [];
     }
@@ -192,11 +192,11 @@ end_of_clock =
       stamps = last_stamp ∷ last_stamp ∷ [];
       first_values = 7 ∷ [];
       rows =
-          says (begin_by 0) Done
-          ∷ says (begin_by 1) Done
-          ∷ says (store_by 0 0 8) Done
-          ∷ says (load_by 1 0) (Gone WrittenLater 1000000002)
-          ∷ refuses (begin_by 1) (fault_in_call ClockSpent 1000000002)
+          answered_row (begin_by 0) Done
+          ∷ answered_row (begin_by 1) Done
+          ∷ answered_row (store_by 0 0 8) Done
+          ∷ answered_row (load_by 1 0) (Gone WrittenLater 1000000002)
+          ∷ refused_row (begin_by 1) (fault_in_call ClockSpent 1000000002)
           ∷ [];
       last_values = 7 ∷ [];
     }
@@ -215,15 +215,15 @@ worked_runs =
     ∷ []
 
 -- What the calls are answered and what each line holds in the end, as the rules turn the run.
-abbrev pub turned : WorkedRun → List (Result Answer Fault) × List (Option ℕ)
-turned r =
+abbrev pub run_result : WorkedRun → List (Result Answer Fault) × List (Option ℕ)
+run_result r =
     let after = exact_run r.stamps r.first_values (map (λ (row : Row). row.call) r.rows) in
-    (map (λ (e : Event). e.answer) after.events, map after.machine.lines (upto (length r.first_values)))
+    (map (λ (e : Event). e.answer) after.events, map after.machine.lines (numbers_below (length r.first_values)))
 
 -- The same, as the run says it.
-abbrev pub said : WorkedRun → List (Result Answer Fault) × List (Option ℕ)
-said r = (map (λ (row : Row). row.reply) r.rows, map Some r.last_values)
+abbrev pub stated_result : WorkedRun → List (Result Answer Fault) × List (Option ℕ)
+stated_result r = (map (λ (row : Row). row.reply) r.rows, map Some r.last_values)
 
 -- Each worked run is turned as it says.
 abbrev pub WorkedRunsStand : Type 0
-WorkedRunsStand = map turned worked_runs ≡ map said worked_runs
+WorkedRunsStand = map run_result worked_runs ≡ map stated_result worked_runs

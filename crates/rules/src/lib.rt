@@ -10,7 +10,11 @@ ghost use Rattle.rules.specs.Laws.{LawOfAccounts, LawOfExplanation, LawOfFetches
 ghost use Rattle.rules.specs.Laws.{ProductCovers, ProductLawful, RefusalsChangeNothing};
 ghost use Rattle.rules.specs.Worked.{WorkedRunsStand};
 
-pub mod state;
+mod state;
+mod verdict;
+
+pub use state::{Access, Phase, Request};
+pub use verdict::Verdict;
 
 /// Any kind of version book, by its meaning alone. The laws below hold over every kind that keeps the promised
 /// meanings.
@@ -21,38 +25,38 @@ pub trait Versions {
 /// The account of a run's answers is that of its committed transactions, run alone, exactly in the orders that keep
 /// logical time among those that clash.
 pub fn accounts_agree<B: Versions>()
-    ensures { LawOfAccounts B.Versions.kind }
+    ensures { LawOfAccounts B.kind }
 {}
 
 /// Some order explains every run: its committed transactions, run alone in that order, give the machine's account.
 pub fn order_explains<B: Versions>()
-    ensures { LawOfExplanation B.Versions.kind }
+    ensures { LawOfExplanation B.kind }
 {}
 
 /// Every fetch that is answered tells what its warp's request came out with, as it joined the account then.
 pub fn fetches_tell<B: Versions>()
-    ensures { LawOfFetches B.Versions.kind }
+    ensures { LawOfFetches B.kind }
 {}
 
 /// From every waiting warp, stamps fall from holder to holder, and fewer steps than there are warps end the wait.
 pub fn waits_end<B: Versions>()
-    ensures { LawOfWaits B.Versions.kind }
+    ensures { LawOfWaits B.kind }
 {}
 
 /// After every run, what the tables tell of warps and lines is what the account says: stamps, logs, owners and counts.
 pub fn tables_agree<B: Versions>()
-    ensures { LawOfTables B.Versions.kind }
+    ensures { LawOfTables B.kind }
 {}
 
 /// The product's order of tries passes over no waiting request, so both laws hold of every run of its machine.
 pub fn product_is_lawful<B: Versions>()
-    ensures covers { ProductCovers B.Versions.kind }
-    ensures lawful { ProductLawful B.Versions.kind }
+    ensures covers { ProductCovers B.kind }
+    ensures lawful { ProductLawful B.kind }
 {}
 
 /// A refused call changes nothing.
 pub fn refusals_change_nothing<B: Versions>()
-    ensures { RefusalsChangeNothing B.Versions.kind }
+    ensures { RefusalsChangeNothing B.kind }
 {}
 
 /// The worked runs answer and leave what their table says, every row of it.

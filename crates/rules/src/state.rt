@@ -1,5 +1,5 @@
 //! What a warp may be doing, and what it may wait for.
-use protocol::answer::Outcome;
+use protocol::Outcome;
 
 /// What a load or a store wants of its line.
 #[derive(Clone, Copy, Default)]

@@ -1,10 +1,10 @@
 //! Two version books side by side: the same calls, and what each book tells.
 #![tactic(auto)]
 
+mod look;
 mod meaning;
 mod storm;
 mod story;
-mod told;
 
 use std::io;
 use storm::{Outcome, storm};

@@ -1,7 +1,6 @@
 //! The meanings of a book, checked on what it tells before and after a call.
-use crate::told::Look;
-use book::call::BookCall;
-use book::entry::can_be;
+use crate::look::Look;
+use book::{BookCall, can_be};
 use protocol::limits::{LINES, STORES};
 
 /// A call that was made of a book, and whether the book granted it.
@@ -22,14 +21,14 @@ impl Made {
         }
         match self.call {
             BookCall::Note { line, time } => stays(before, after)
-                && (line != after.line || after.told.read >= time),
+                && (line != after.line || after.state.read_mark >= time),
             _ if self.call.line() != after.line => stays(before, after),
             BookCall::Reserve { time, .. } => after.stores == 1
-                && after.told.owner == Some(time.1)
-                && time.0 < after.told.written,
+                && after.state.owner == Some(time.1)
+                && time.0 < after.state.write_stamp,
             BookCall::Add { .. } => {
                 before.stores.checked_add(1) == Some(after.stores)
-                    && after.told.owner == before.told.owner
+                    && after.state.owner == before.state.owner
             }
             BookCall::Release { .. } => after.stores == 0,
         }
@@ -56,7 +55,7 @@ pub fn may(call: BookCall, look: &Look) -> bool {
     }
     match call {
         BookCall::Note { time, .. } => can_be(time),
-        BookCall::Reserve { time, .. } => can_be(time) && look.stores == 0 && look.told.slot,
+        BookCall::Reserve { time, .. } => can_be(time) && look.stores == 0 && look.state.has_slot,
         BookCall::Add { .. } => look.stores > 0 && (look.stores as usize) < STORES,
         BookCall::Release { .. } => true,
     }
@@ -66,40 +65,40 @@ pub fn may(call: BookCall, look: &Look) -> bool {
 /// reserved than those looked at.
 pub fn roomy(looks: &[Look], slots: usize) -> bool {
     let reserved = looks.iter().filter(|look| look.stores > 0).count();
-    reserved == slots || (reserved < slots && looks.iter().all(|look| look.told.slot))
+    reserved == slots || (reserved < slots && looks.iter().all(|look| look.state.has_slot))
 }
 
 /// A line's reservation is as it was.
 fn stays(before: &Look, after: &Look) -> bool {
-    after.stores == before.stores && after.told.owner == before.told.owner
+    after.stores == before.stores && after.state.owner == before.state.owner
 }
 
 /// Whether what is told of a line fits together, under the latest stamp.
 pub fn sound(look: &Look, latest: u32) -> bool {
-    let told = look.told;
-    if told.written > latest || told.read.0 > latest {
+    let state = look.state;
+    if state.write_stamp > latest || state.read_mark.0 > latest {
         return false;
     }
     if look.stores == 0 {
-        return told.owner.is_none();
+        return state.owner.is_none();
     }
-    told.owner.is_some() && told.written > 0 && told.slot
+    state.owner.is_some() && state.write_stamp > 0 && state.has_slot
 }
 
 #[cfg(test)]
 mod tests {
     use super::*;
-    use book::record::Told;
+    use book::LineState;
 
     // What is told of a line with a write stamp of 4 and a read mark of (9, 0).
     fn look(line: u32, stores: u32, owner: Option<u32>) -> Look {
         Look {
             line,
-            told: Told {
-                written: 4,
-                read: (9, 0),
+            state: LineState {
+                write_stamp: 4,
+                read_mark: (9, 0),
                 owner,
-                slot: true,
+                has_slot: true,
             },
             stores,
         }
@@ -107,9 +106,9 @@ mod tests {
 
     fn written(look: Look, written: u32) -> Look {
         Look {
-            told: Told {
-                written,
-                ..look.told
+            state: LineState {
+                write_stamp: written,
+                ..look.state
             },
             ..look
         }
@@ -146,9 +145,9 @@ mod tests {
     fn what_no_book_may_tell(rt: HostRuntime) {
         let free = look(7, 0, None);
         let full = Look {
-            told: Told {
-                slot: false,
-                ..free.told
+            state: LineState {
+                has_slot: false,
+                ..free.state
             },
             ..free
         };

@@ -1,10 +1,8 @@
 //! Random calls from a fixed seed, made of both books, with the meanings checked at each step.
+use crate::look::Look;
 use crate::meaning::{Made, may, roomy, sound};
-use crate::told::Look;
-use book::call::{BookCall, make_both};
-use book::exact::ExactBook;
-use book::record::Book;
-use condensed::state::CondensedBook;
+use book::{Book, BookCall, ExactBook, make_both};
+use condensed::CondensedBook;
 use std::array;
 
 /// So many lines are called, and looked at after each call.
@@ -165,7 +163,7 @@ mod tests {
     fn one_line_of_many_is_looked_at(rt: HostRuntime) {
         let before = Snapshot::of(&ExactBook::new());
         let mut after = before;
-        after.looks[57].told.owner = Some(3);
+        after.looks[57].state.owner = Some(3);
         let made = Made {
             call: BookCall::Release { line: 37 },
             granted: true,
@@ -178,7 +176,7 @@ mod tests {
     fn one_earlier_line_of_many_is_found(rt: HostRuntime) {
         let line = Look::at(&ExactBook::new(), 0);
         let mut later = line;
-        later.told.written = 1;
+        later.state.write_stamp = 1;
         assert_eq!(rt; later_lines(&[line, line], &[line, later]), Some(1));
         assert_eq!(rt; later_lines(&[line, later], &[later, line]), None);
     }

@@ -1,8 +1,7 @@
 //! A few calls that show how the two books differ.
-use crate::told::Look;
-use book::call::{BookCall, make_both};
-use book::exact::ExactBook;
-use condensed::state::CondensedBook;
+use crate::look::Look;
+use book::{BookCall, ExactBook, make_both};
+use condensed::CondensedBook;
 use std::io;
 
 /// Line 5 shares an entry of the filter with each of the lines 70, 125, 81 and 122. Once all four were read, the

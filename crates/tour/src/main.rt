@@ -1,9 +1,9 @@
 //! Prints docs/TOUR.md: what golden says of an example, as the libraries behind it say it.
 #![tactic(auto)]
 
-use explain::explain::explain;
-use listing::listing::list;
-use report::report::make_report;
+use explain::explain;
+use listing::list;
+use report::make_report;
 use std::fs;
 
 const INTRODUCTION: &str = "\

@@ -1,13 +1,10 @@
 //! What a machine can be asked, before a commit and after it.
 use crate::rows::{Row, turns};
-use book::exact::ExactBook;
-use book::record::{Book, Told};
-use machine::state::Machine;
-use memory::store::Memory;
-use memory::word::WordMemory;
-use protocol::answer::Outcome;
-use protocol::fault::{Fault, Layer, Refusal};
-use rules::state::{Access, Phase, Request};
+use book::{Book, ExactBook, Told};
+use machine::Machine;
+use memory::{Memory, WordMemory};
+use protocol::{Fault, Layer, Outcome, Refusal};
+use rules::{Access, Phase, Request};
 use std::process::Abort;
 use std::test::Fail;
 

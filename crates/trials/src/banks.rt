@@ -1,9 +1,7 @@
 //! A memory of two banks: words for the even lines, four bytes for each odd one.
 use crate::rows::{Row, plays};
-use book::exact::ExactBook;
-use memory::byte::ByteMemory;
-use memory::split::SplitMemory;
-use memory::word::WordMemory;
+use book::ExactBook;
+use memory::{ByteMemory, SplitMemory, WordMemory};
 use std::test::Fail;
 
 // Lines 0, 2 and 4 are words, line 1 is four bytes, and two bytes are no line.

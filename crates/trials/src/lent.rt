@@ -5,14 +5,10 @@ ghost use Rattle.book.specs.Exact.{exact, exact_new};
 ghost use Rattle.machine.specs.Running.{run_of, calls_made};
 
 use crate::rows::{Row, answers, call_of};
-use book::exact::ExactBook;
-use machine::running::run;
-use memory::byte::ByteMemory;
-use memory::store::Memory;
-use memory::word::WordMemory;
-use protocol::answer::Answer;
-use protocol::call::Call;
-use protocol::fault::{Fault, Refusal};
+use book::ExactBook;
+use machine::run;
+use memory::{ByteMemory, Memory, WordMemory};
+use protocol::{Answer, Call, Fault, Refusal};
 use std::alloc::Global;
 use std::process::Abort;
 use std::test::Fail;
@@ -24,11 +20,11 @@ struct LentMemory<'a, M> {
 }
 
 impl<'a, M: Memory> Memory for LentMemory<'a, M> {
-    ghost at = { λ m. M.Memory.at m.memory.now };
+    ghost at = { λ m. M.at m.memory.now };
 
-    ghost lent = { λ m. m.memory.ghost_name ∷ M.Memory.lent m.memory.now };
+    ghost lent = { λ m. m.memory.ghost_name ∷ M.lent m.memory.now };
 
-    ghost spare = { λ m. M.Memory.spare m.memory.now };
+    ghost spare = { λ m. M.spare m.memory.now };
 
     fn read(&self, line: u32) -> Result<u32, Fault> {
         self.memory.read(line)
@@ -48,11 +44,11 @@ fn runs_over<M: Memory>(
     calls: &[Call],
     replies: &mut [Result<Answer, Fault>],
 ) -> Result<(), Fault>
-    ensures lines { M.Memory.at memory.new
-        ≡ (run_of exact (M.Memory.at memory.old) exact_new stamps.now
+    ensures lines { M.at memory.new
+        ≡ (run_of exact (M.at memory.old) exact_new stamps.now
         (calls_made calls.now replies.old)).machine.lines }
-    ensures lender { M.Memory.lent memory.new ≡ M.Memory.lent memory.old }
-    ensures untouched { M.Memory.spare memory.new ≡ M.Memory.spare memory.old }
+    ensures lender { M.lent memory.new ≡ M.lent memory.old }
+    ensures untouched { M.spare memory.new ≡ M.spare memory.old }
 {
     run(
         LentMemory { memory },

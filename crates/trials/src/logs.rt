@@ -1,11 +1,11 @@
 //! What a transaction holds: its log, its lines, and the slots that these take.
 use crate::asked::{line_has, warp_has};
 use crate::rows::{Row, turns};
-use book::exact::ExactBook;
-use condensed::state::CondensedBook;
-use machine::state::Machine;
-use memory::word::WordMemory;
-use rules::state::Phase;
+use book::ExactBook;
+use condensed::CondensedBook;
+use machine::Machine;
+use memory::WordMemory;
+use rules::Phase;
 use std::test::Fail;
 
 // The last of 32 stores; then every other is refused, unless something else refuses it first.

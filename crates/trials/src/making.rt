@@ -1,9 +1,8 @@
 //! Shapes that are refused. No call finds a warp then.
 use crate::rows::{Row, tell_fault, turns};
-use book::exact::ExactBook;
-use book::record::Book;
-use machine::state::Machine;
-use memory::word::WordMemory;
+use book::{Book, ExactBook};
+use machine::Machine;
+use memory::WordMemory;
 use std::alloc::Global;
 use std::process::Abort;
 use std::test::Fail;

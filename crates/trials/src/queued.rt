@@ -1,11 +1,11 @@
 //! Requests that wait: how many may, in which order they are tried, and what stays of one that is gone.
 use crate::asked::{line_has, place_has, request_is, warp_has};
 use crate::rows::{Row, leaves, turns};
-use book::exact::ExactBook;
-use machine::state::Machine;
-use memory::word::WordMemory;
-use protocol::answer::{Cause, Outcome};
-use rules::state::Phase;
+use book::ExactBook;
+use machine::Machine;
+use memory::WordMemory;
+use protocol::{Cause, Outcome};
+use rules::Phase;
 use std::test::Fail;
 
 // Warp 0 holds five lines. Four of them are waited for, so no request may wait for the fifth.

@@ -1,13 +1,8 @@
 //! Rows of calls with their answers, and how they are made.
-use book::exact::ExactBook;
-use book::record::Book;
-use machine::running::run_to_vec;
-use machine::state::Machine;
-use memory::store::Memory;
-use memory::word::WordMemory;
-use protocol::answer::Answer;
-use protocol::call::{Call, Op};
-use protocol::fault::{Fault, Layer};
+use book::{Book, ExactBook};
+use machine::{Machine, run_to_vec};
+use memory::{Memory, WordMemory};
+use protocol::{Answer, Call, Fault, Layer, Op};
 use std::alloc::{AllocError, Global};
 use std::process::Abort;
 use std::test::Fail;

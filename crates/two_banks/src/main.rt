@@ -1,15 +1,10 @@
 //! The library by example: a machine over two banks of memory, a few calls, and what its memory and its book tell.
 #![tactic(auto)]
 
-use book::exact::ExactBook;
-use book::record::Book;
-use machine::state::Machine;
-use memory::byte::ByteMemory;
-use memory::split::SplitMemory;
-use memory::store::Memory;
-use memory::word::WordMemory;
-use protocol::answer::Answer;
-use protocol::fault::Fault;
+use book::{Book, ExactBook};
+use machine::Machine;
+use memory::{ByteMemory, Memory, SplitMemory, WordMemory};
+use protocol::{Answer, Fault};
 use std::io;
 
 // Even lines are words, odd lines are four bytes each: line 0 holds 100, line 1 holds 50, line 2 holds 7.

@@ -1,15 +1,15 @@
 //! What the exact book tells, and its calls.
 ghost use Rattle.std.specs.Prelude.{◌≡◌, ◌<◌, max};
 ghost use Rattle.protocol.specs.Limits.{line_limit};
-ghost use Rattle.book.specs.Meaning.{New};
-ghost use Rattle.book.specs.Exact.{exact, exact_new, entry_at, with_entry, FitsBy};
-ghost use Rattle.book.specs.Pages.{exact_page, good_page};
+ghost use Rattle.book.specs.Meaning.{IsNew};
+ghost use Rattle.book.specs.Exact.{exact, exact_new, entry_at, with_entry, FitsWithin};
+ghost use Rattle.book.specs.ExactState.{exact_state, exact_is_good};
 ghost use Rattle.book.specs.ExactKeeps.{exact_keeps};
 ghost use Rattle.book.specs.Slots.{OneSlotIsTooFew};
 
+use crate::book::Book;
 use crate::entry::{Entry, can_be};
 use crate::exact::ExactBook;
-use crate::record::Book;
 use crate::refused::Refused;
 use protocol::limits::{LINES, STORES};
 
@@ -17,8 +17,8 @@ impl ExactBook {
     /// A book that tells nothing yet.
     #[tactic(auto, using(crate::proofs::NewBook::new_book))]
     pub fn new() -> ExactBook
-        ensures value { exact_page result ≡ exact_new }
-        ensures new { New exact (exact_page result) }
+        ensures value { exact_state result ≡ exact_new }
+        ensures new { IsNew exact (exact_state result) }
         ensures example { OneSlotIsTooFew }
     {
         let entries = [Entry::UNTOUCHED; 4096];
@@ -27,7 +27,7 @@ impl ExactBook {
 
     /// What the book has of a line; a line without a number is as one that no call named yet.
     fn at(&self, line: u32) -> Entry
-        ensures { result ≡ entry_at (exact_page self.now) line }
+        ensures { result ≡ entry_at (exact_state self.now) line }
     {
         let entry = self.entries.get(line as usize).copied();
         entry.unwrap_or(Entry::UNTOUCHED)
@@ -36,9 +36,9 @@ impl ExactBook {
     /// Sets the entry of a line, and raises the latest stamp where it is earlier.
     fn set(&mut self, line: u32, entry: Entry, stamp: u32)
         requires inside { line < line_limit }
-        requires fits { FitsBy (max self.old.latest stamp) entry }
-        ensures { exact_page self.new
-            ≡ with_entry (exact_page self.old) line entry stamp }
+        requires fits { FitsWithin (max self.old.latest stamp) entry }
+        ensures { exact_state self.new
+            ≡ with_entry (exact_state self.old) line entry stamp }
     {
         self.entries[line as usize] = entry;
         self.latest = self.latest.max(stamp);
@@ -48,11 +48,11 @@ impl ExactBook {
 impl Book for ExactBook {
     ghost kind = { exact };
 
-    ghost model = { exact_page };
+    ghost model = { exact_state };
 
     ghost keeps = { exact_keeps };
 
-    ghost good = { good_page };
+    ghost good = { exact_is_good };
 
     fn write_stamp(&self, line: u32) -> u32 {
         self.at(line).stamps.write

@@ -1,7 +1,7 @@
 -- An entry that fits may be set.
 use Rattle.std.proofs.Common.{◌≤◌, sym, subst, arith}
-use Rattle.book.specs.Exact.{FitsBy}
-use Rattle.book.specs.Pages.{exact_page}
+use Rattle.book.specs.Exact.{FitsWithin}
+use Rattle.book.specs.ExactState.{exact_state}
 use Rattle.book.specs.ExactKeeps.{good_with}
 use Rattle.book.proofs.exact.ExactBook.set.Goals as goal
 
@@ -10,6 +10,6 @@ invariant_of-self c =
     let b = c.args.self.now in
     let later = c.max-self.result in
     let up : b.latest ≤ later = omega arith in
-    let fits : FitsBy later c.args.entry = subst (λ m. FitsBy m c.args.entry) (sym c.max-self.ensures)
+    let fits : FitsWithin later c.args.entry = subst (λ m. FitsWithin m c.args.entry) (sym c.max-self.ensures)
     c.requires.fits in
-    record { sound = good_with (exact_page b) b.sound c.args.line c.args.entry later up fits }
+    record { sound = good_with (exact_state b) b.sound c.args.line c.args.entry later up fits }

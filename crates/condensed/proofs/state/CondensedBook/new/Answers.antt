@@ -1,8 +1,8 @@
 -- A new book is one of those that come up, and tells nothing.
 use Rattle.std.proofs.Common.{◌≡◌, replicate, sym, ap, subst}
-use Rattle.book.specs.Meaning.{New}
+use Rattle.book.specs.Meaning.{IsNew}
 use Rattle.book.proofs.Earliest.{exact_is_earliest}
-use Rattle.condensed.specs.Condensed.{Sound, condensed, condensed_new, empty, page_of}
+use Rattle.condensed.specs.Condensed.{IsSound, condensed, condensed_new, empty_slot, condensed_of}
 use Rattle.condensed.specs.CondensedKeeps.{condensed_keeps, sound_new}
 use Rattle.condensed.proofs.CondensedNew.{new_condensed}
 use Rattle.condensed.proofs.SharedMark.{shared_mark}
@@ -11,15 +11,15 @@ use Rattle.condensed.proofs.state.CondensedBook.new.Goals as goal
 
 pub invariant_of-result : goal.invariant_of-result
 invariant_of-result c =
-    record { sound = subst Sound (sym (ap (λ f. page_of (replicate 16 empty) f 0) c.new.ensures)) sound_new }
+    record { sound = subst IsSound (sym (ap (λ f. condensed_of (replicate 16 empty_slot) f 0) c.new.ensures)) sound_new }
 
 pub returns : goal.returns
 returns c =
-    let is : page_of (replicate 16 empty) c.new.result.ways 0 ≡ condensed_new =
-    ap (λ f. page_of (replicate 16 empty) f 0) c.new.ensures in
+    let is : condensed_of (replicate 16 empty_slot) c.new.result.ways 0 ≡ condensed_new =
+    ap (λ f. condensed_of (replicate 16 empty_slot) f 0) c.new.ensures in
     record {
       value = is;
-      new = subst (New condensed) (sym is) new_condensed;
+      new = subst (IsNew condensed) (sym is) new_condensed;
       never_earlier = exact_is_earliest condensed condensed_keeps;
       full = no_slot_for_a_seventeenth;
       example = shared_mark;

@@ -1,21 +1,21 @@
 -- The filter may be raised to the stamps of a line that is in a slot.
 use Rattle.std.proofs.Common.{◌<◌, length, sym, ap, subst, ◌∙◌, arith}
 use Rattle.std.proofs.lemmas.List.{get_or_default}
-use Rattle.condensed.specs.Condensed.{Condensed, Sound, empty, page_of, turned_out}
-use Rattle.condensed.specs.Pages.{condensed_page}
+use Rattle.condensed.specs.Condensed.{Condensed, IsSound, empty_slot, condensed_of, filter_after_eviction}
+use Rattle.condensed.specs.CondensedState.{condensed_state}
 use Rattle.condensed.specs.CondensedKeeps.{sound_vacated}
 use Rattle.condensed.proofs.state.CondensedBook.vacate.Goals as goal
 
 pub invariant_of-self : goal.invariant_of-self
 invariant_of-self c =
     let b = c.args.self.now in
-    let s : Condensed = condensed_page b in
+    let s : Condensed = condensed_state b in
     let inside = c.args.place.inside in
     let sixteen = b.sound.sixteen in
     let room : c.args.place.at < length b.slots = omega arith in
-    let slot = get_or_default b.slots c.args.place.at c.index-self-place.result empty room in
-    let after = c.turn_out.ensures ∙ ap (λ x. turned_out b.filter.ways x c.args.line) slot in
+    let slot = get_or_default b.slots c.args.place.at c.index-self-place.result empty_slot room in
+    let after = c.turn_out.ensures ∙ ap (λ x. filter_after_eviction b.filter.ways x c.args.line) slot in
     record {
-      sound = subst Sound (sym (ap (λ f. page_of b.slots f b.latest) after))
+      sound = subst IsSound (sym (ap (λ f. condensed_of b.slots f b.latest) after))
           (sound_vacated s b.sound c.args.line c.args.place.at);
     }

@@ -1,0 +1,84 @@
+-- The tries and the end of a transaction, by the machine that they leave.
+use Rattle.std.specs.Prelude.{ℕ, [], ◌∷◌, ◌++◌, length, Some, None, Ok, Err, Option, Result, nat_le, nat_lt}
+use Rattle.std.specs.Option.{unwrap_or, option_or}
+use Rattle.protocol.specs.Limits.{log_limit, last_stamp}
+use Rattle.protocol.specs.declared.answer.Outcome.{Outcome}
+use Rattle.protocol.specs.declared.call.Op.{Op}
+use Rattle.protocol.specs.declared.fault.Fault.{Fault}
+use Rattle.protocol.specs.declared.fault.Refusal.TheVariants.{LogFull, ClockSpent}
+use Rattle.book.specs.Meaning.{Kind, state_after_reserve}
+use Rattle.rules.specs.declared.state.Access.{Access}
+use Rattle.rules.specs.declared.state.Phase.TheVariants.{Waiting}
+use Rattle.rules.specs.declared.state.Request.{Request}
+use Rattle.rules.specs.Logs.{last_stored}
+use Rattle.rules.specs.State.{WarpRow, Machine, with_book, with_warp_row, with_queue, row_in_phase, time_of, warp_row_of}
+use Rattle.rules.specs.declared.verdict.Verdict.{Verdict}
+use Rattle.rules.specs.declared.verdict.Verdict.TheVariants.{MustWait}
+use Rattle.rules.specs.Access.{verdict_with_room}
+use Rattle.rules.specs.Queue.{Policy, is_full}
+use Rattle.rules.specs.Ending.{AfterTries, with_outcome, after_settling, after_turn, after_turns}
+use Rattle.rules.specs.Steps.{Step, step_by_verdict, step}
+use Rattle.rules.specs.Serving.{memory_value, served_on_free_line}
+use Rattle.rules.specs.Refusals.{fault_unless, refusal_fault, phase_refuses, number_fault}
+
+module _ {k : Kind} where
+  -- Nothing has come out yet.
+  abbrev pub before_tries : Machine k → AfterTries k
+  before_tries m = record { machine = m; settled = [] }
+
+  -- A warp has an outcome to fetch.
+  abbrev pub with_outcome_set : Machine k → ℕ → Outcome → Machine k
+  with_outcome_set m w outcome = with_warp_row m w (with_outcome (warp_row_of m w) outcome)
+
+  -- A request that waited goes on, and comes out.
+  abbrev pub after_serving : Machine k → ℕ → ℕ → Access → Machine k
+  after_serving m w line access =
+      let served = served_on_free_line m w line access in after_settling served.machine w served.outcome
+
+  -- What a turn at a line leaves, and all turns at it.
+  abbrev pub machine_after_turn : ℕ → Machine k → ℕ → Machine k
+  machine_after_turn line m w = (after_turn line (before_tries m) w).machine
+
+  abbrev pub machine_after_turns : Policy k → Machine k → ℕ → Machine k
+  machine_after_turns policy m line = (after_turns policy (before_tries m) line).machine
+
+  -- The last value that a warp logged for a line, or else the line's.
+  abbrev pub own_value : Machine k → ℕ → ℕ → ℕ
+  own_value m w line = unwrap_or (last_stored (warp_row_of m w).log line) (memory_value m line)
+
+  -- A line reserved for a warp's transaction.
+  abbrev pub with_line_reserved : Machine k → ℕ → ℕ → Machine k
+  with_line_reserved m w line = with_book m (state_after_reserve k m.book line (time_of m w))
+
+  -- What becomes of a request that must wait: without room in the queue its transaction is lost.
+  abbrev pub wait_verdict : Policy k → Machine k → ℕ → ℕ → Verdict
+  wait_verdict policy m w line =
+      verdict_with_room (is_full policy.line_room policy.queue_room m.queue line) (warp_row_of m w).stamp MustWait
+
+  -- What that leaves and answers.
+  abbrev pub wait_step : Policy k → Machine k → ℕ → ℕ → Access → Step k
+  wait_step policy m w line access = step_by_verdict policy m w line access (wait_verdict policy m w line)
+
+  -- A request joins the queue, behind all others; its warp waits.
+  abbrev pub with_request : Machine k → Request → Machine k
+  with_request m r = with_queue (with_warp_row m r.warp (row_in_phase (warp_row_of m r.warp) Waiting)) (m.queue ++ r ∷ [])
+
+  -- The step of one of the six calls.
+  abbrev pub step_of : Policy k → Machine k → ℕ → Op → Step k
+  step_of policy m w op = step policy m (record { warp = w; op = op })
+
+-- A full log, and a clock that is spent.
+abbrev pub room_fault : WarpRow → Option Fault
+room_fault l = fault_unless (nat_lt (length l.log) log_limit) LogFull (length l.log)
+
+abbrev pub clock_fault : WarpRow → Option Fault
+clock_fault l = fault_unless (nat_le l.stamp last_stamp) ClockSpent l.stamp
+
+-- What a warp that the machine has may be refused for.
+abbrev pub warp_fault : {k : Kind} → Machine k → ℕ → Op → Option Fault
+warp_fault m w op = option_or (refusal_fault (phase_refuses (warp_row_of m w).phase op) w) (number_fault m w op)
+
+-- A refusal, if there is one, as a result.
+abbrev pub as_result : Option Fault → Result (Unit {0}) Fault
+as_result None = Ok tt
+as_result (Some fault) = Err fault

@@ -1,0 +1,24 @@
+-- The queue fits the rows: a request is of a waiting warp, which has no other, and a store that waits has room in
+-- the log.
+use Rattle.std.specs.Prelude.{◌≡◌, Bool, true, not, ◌&&◌, List, [], ◌∷◌, is_some, nat_lt, slice_index_or}
+use Rattle.protocol.specs.Limits.{log_limit}
+use Rattle.rules.specs.Queue.{request_of}
+use Rattle.rules.specs.State.{is_waiting}
+use Rattle.rules.specs.declared.state.Access.{Access}
+use Rattle.rules.specs.declared.state.Access.TheVariants.{Read, Write}
+use Rattle.rules.specs.declared.state.Request.{Request}
+use Rattle.machine.specs.Rows.{no_row}
+use Rattle.machine.specs.declared.row.Row.{Row}
+
+-- A row may have a request: its warp waits, for a store with room in its log.
+abbrev pub is_fitting : Row → Access → Bool
+is_fitting row Read = is_waiting row.phase
+is_fitting row (Write value) = is_waiting row.phase && nat_lt row.len log_limit
+
+abbrev pub is_sound : List Row → List Request → Bool
+is_sound rows [] = true
+is_sound rows (r ∷ rest) =
+    is_fitting (slice_index_or rows r.warp no_row) r.access && (not (is_some (request_of rest r.warp)) && is_sound rows rest)
+
+abbrev pub IsSound : List Row → List Request → Type 0
+IsSound rows queue = is_sound rows queue ≡ true

@@ -1,6 +1,7 @@
 -- The condensed book: sixteen slots, a filter for all other lines, and the latest stamp.
 use Rattle.std.specs.Prelude.{◌≡◌, ℕ, ◌+◌, ◌<◌, ◌≤◌, max, Bool, true, false, cond, ◌&&◌, List, map, length, get_or, replicate, is_some, Some, None, Option, ◌==◌, nat_lt, slice_index_or, slice_set}
 use Rattle.std.specs.List.{list_any, position}
+use Rattle.std.specs.Option.{option_map, option_map_or, option_or}
 use Rattle.protocol.specs.Limits.{line_limit}
 use Rattle.choice.specs.Rule.{choice_of}
 use Rattle.book.specs.Time.{Time}
@@ -41,12 +42,10 @@ same_line (Some line) other = is_line other line
 
 -- The line in a slot, and what is told of it; in a slot that holds no line, as of one that no call named yet.
 abbrev pub occupant_line : Option Occupant → Option ℕ
-occupant_line None = None
-occupant_line (Some there) = Some there.line
+occupant_line = option_map (λ occupant. occupant.line)
 
 abbrev pub occupant_entry : Option Occupant → Entry
-occupant_entry None = untouched_entry
-occupant_entry (Some there) = there.entry
+occupant_entry occupant = option_map_or (λ there. there.entry) occupant untouched_entry
 
 abbrev pub slot_line : Slot → Option ℕ
 slot_line slot = occupant_line slot.occupant
@@ -74,16 +73,12 @@ slot_key slot = occupant_key slot.occupant
 abbrev pub any_free : List Slot → Bool
 any_free slots = list_any (λ slot. is_some (slot_key slot)) slots
 
--- Where a line goes that is to be reserved: the slot that it is in, or else the one that is chosen.
-abbrev pub or_else : Option ℕ → Option ℕ → Option ℕ
-or_else None other = other
-or_else (Some place) other = Some place
+-- The slot for a line that is to be reserved: the one that it is in, or else the one that is chosen.
+abbrev pub slot_or_choice : List Slot → Option ℕ → Option ℕ
+slot_or_choice slots inside = option_or inside (choice_of (map slot_key slots))
 
-abbrev pub place_from : List Slot → Option ℕ → Option ℕ
-place_from slots inside = or_else inside (choice_of (map slot_key slots))
-
-abbrev pub place_for : List Slot → ℕ → Option ℕ
-place_for slots line = or_else (slot_of slots line) (choice_of (map slot_key slots))
+abbrev pub slot_for : List Slot → ℕ → Option ℕ
+slot_for slots line = option_or (slot_of slots line) (choice_of (map slot_key slots))
 
 -- A line in a slot is told from the slot, any other from the filter.
 abbrev pub entry_from : List Slot → List (List Stamps) → ℕ → Option ℕ → Entry
@@ -204,10 +199,10 @@ condensed =
       read_mark = λ s line. (line_entry s line).stamps.read;
       stores = λ s line. entry_stores (line_entry s line);
       owner = λ s line. entry_owner (line_entry s line);
-      has_slot = λ s line. nat_lt line line_limit && is_some (place_for s.slots line);
+      has_slot = λ s line. nat_lt line line_limit && is_some (slot_for s.slots line);
       latest = λ s. s.latest;
       note = λ s line t. after_note s line t (slot_of s.slots line);
-      reserve = λ s line t. after_reserve s line t (place_for s.slots line);
+      reserve = λ s line t. after_reserve s line t (slot_for s.slots line);
       add = λ s line. after_change s line entry_after_add (slot_of s.slots line);
       release = λ s line. after_change s line entry_after_release (slot_of s.slots line);
     }

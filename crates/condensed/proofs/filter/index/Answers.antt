@@ -2,7 +2,7 @@
 use Rattle.std.proofs.Common.{◌<◌, sym, subst, refl, ap, ◌∙◌, arith}
 use Rattle.std.proofs.lemmas.Grind.{common_steps}
 use Rattle.condensed.specs.Filter.{index_by}
-use Rattle.condensed.specs.Indices.{index_next, index_none, index_below}
+use Rattle.condensed.specs.Lemmas.Indices.{index_next, index_none, index_below}
 use Rattle.condensed.proofs.filter.index.Goals as goal
 
 pub loop-bit-init : goal.loop-bit-init

@@ -1,4 +1,4 @@
--- No book tells earlier stamps than the exact one.
+-- No book has earlier stamps than the exact one.
 use Rattle.std.proofs.Common.{◌≡◌, ℕ, ◌+◌, ◌<◌, ◌≤◌, max, Bool, true, false, cond, not, ◌&&◌, eqb, ltb, leb, List, [], ◌∷◌, length, Ok, Err, sym, refl, ap, ◌∙◌, subst, arith}
 use Rattle.std.proofs.lemmas.Bool.{cond-true, and_parts, and_from, lt-ltb, ltb-true, leb-true, leb-false}
 use Rattle.protocol.specs.Limits.{line_limit, log_limit}
@@ -18,7 +18,7 @@ use Rattle.book.specs.Lemmas.ListSet.{holds_after_set_by_place}
 use Rattle.book.specs.Lemmas.Holds.{hold_stores-hold_of}
 use Rattle.book.specs.Lemmas.ExactKeeps.{exact_keeps, exact_new_is_sound, entry_at-exact_new, line_in_range, entry_at-with_entry}
 
--- The exact book's latest stamp is told: no stamp of some line is smaller than it.
+-- Some line of the exact book has a stamp as late as its latest stamp.
 LatestIsReached : Exact → Type 0
 LatestIsReached e = (n : ℕ) × (n < line_limit) × (e.latest ≤ max (entry_at e n).stamps.write (entry_at e n).stamps.read.0)
 
@@ -27,15 +27,15 @@ module _ (e : Exact) (fine : exact.Good e) (line : ℕ) (lt : line < line_limit)
       StampsGrow exact e (with_entry e line x stamp) → stamp ≤ max x.stamps.write x.stamps.read.0 → LatestIsReached e
       → LatestIsReached (with_entry e line x stamp)
   unfolding LatestIsReached
-  latest_reached_with grows has told = by (leb stamp e.latest) refl
+  latest_reached_with grows has reached = by (leb stamp e.latest) refl
     where
       by : (b : Bool) → leb stamp e.latest ≡ b → LatestIsReached (with_entry e line x stamp)
       by true up =
           let more = leb-true stamp e.latest up in
-          let w = grows.stamp_grows told.0 told.1 in
-          let after : Entry = entry_at (with_entry e line x stamp) told.0 in
-          let r = stamp_bound_by_time (entry_at e told.0).stamps.read after.stamps.read (grows.mark_grows told.0 told.1) in
-          (told.0, told.1, (let was = told.2 in omega arith))
+          let w = grows.stamp_grows reached.0 reached.1 in
+          let after : Entry = entry_at (with_entry e line x stamp) reached.0 in
+          let r = stamp_bound_by_time (entry_at e reached.0).stamps.read after.stamps.read (grows.mark_grows reached.0 reached.1) in
+          (reached.0, reached.1, (let was = reached.2 in omega arith))
       by false up =
           let less = leb-false stamp e.latest up in
           (line, lt, rw (entry_at-with_entry e fine line lt x stamp) (omega arith))
@@ -48,9 +48,9 @@ module _ (k : Kind) (keeps : Keeps k) where
     stamps : (n : ℕ) → n < line_limit → (entry_at e n).stamps.write ≤ k.write_stamp s n
     marks : (n : ℕ) → n < line_limit → earlier (k.read_mark s n) (entry_at e n).stamps.read ≡ false
     counts : (n : ℕ) → n < line_limit → entry_stores (entry_at e n) ≡ k.stores s n
-    told : LatestIsReached e
+    reached : LatestIsReached e
 
-  -- One entry of the exact book is set, as late as the other book tells of the line.
+  -- One entry of the exact book is set, no later than what the other book says of the line.
   module _ (s s' : k.State) (e : Exact) (f : Follows s e) (line : ℕ) (lt : line < line_limit) (x : Entry)
       (stamp : ℕ) where
     follows_with :
@@ -74,7 +74,7 @@ module _ (k : Kind) (keeps : Keeps k) where
           counts = λ n l. holds_after_set_by_place (λ y. entry_stores y ≡ k.stores s' n) e.entries line n x untouched_entry room
               (λ is. subst (λ m. entry_stores x ≡ k.stores s' m) (sym is) c)
               (λ ne. f.counts n l ∙ sym (same n l ne));
-          told = latest_reached_with e f.fine line lt x stamp later has f.told;
+          reached = latest_reached_with e f.fine line lt x stamp later has f.reached;
         }
       where
         room : line < length e.entries
@@ -183,20 +183,20 @@ module _ (k : Kind) (keeps : Keeps k) where
         marks = λ n l. subst (λ x. earlier (k.read_mark s n) x.stamps.read ≡ false) (sym (entry_at-exact_new n))
             (not_earlier_than_zero (k.read_mark s n));
         counts = λ n l. ap entry_stores (entry_at-exact_new n) ∙ sym (new.no_store n l);
-        told = (0, omega arith, omega arith);
+        reached = (0, omega arith, omega arith);
       }
 
   no_later : (s : k.State) (e : Exact) → Follows s e → exact.latest e ≤ k.latest s
   unfolding LatestIsReached
   no_later s e f =
-      let n : ℕ = f.told.0 in
-      let lt : n < line_limit = f.told.1 in
-      let tells = keeps.tells s f.good n lt in
-      let told = f.told.2 in
+      let n : ℕ = f.reached.0 in
+      let lt : n < line_limit = f.reached.1 in
+      let sound = keeps.tells s f.good n lt in
+      let reached = f.reached.2 in
       let w = f.stamps n lt in
       let r = stamp_bound_by_time (entry_at e n).stamps.read (k.read_mark s n) (f.marks n lt) in
-      let bound = tells.stamp_bound in
-      let mark = tells.mark_bound in
+      let bound = sound.stamp_bound in
+      let mark = sound.mark_bound in
       omega arith
 
   pub exact_is_earliest : IsEarliest k

@@ -1,4 +1,4 @@
--- What a book keeps of a line, and what the calls make of it.
+-- What a book keeps of a line, and what each call does to it.
 use Rattle.std.specs.Prelude.{ℕ, zero, suc, ◌+◌, min, max, cond, Some, None, Option}
 use Rattle.std.proofs.Math.Nat.{zero-lt-suc}
 use Rattle.book.specs.Time.{Time, earlier}

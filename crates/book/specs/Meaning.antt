@@ -3,7 +3,7 @@ use Rattle.std.specs.Prelude.{◌≡◌, ℕ, zero, suc, ◌+◌, ◌<◌, ◌�
 use Rattle.protocol.specs.Limits.{line_limit, warp_limit, log_limit, last_stamp}
 use Rattle.book.specs.Time.{Time, earlier}
 
--- A kind of book: its states, what a state says of each line, and what each granted call makes of a state.
+-- A kind of book: its states, what a state says of each line, and the state after each granted call.
 pub record Kind : Type 1 where
   pub State : Type 0
   -- the sound states, which each kind defines for itself

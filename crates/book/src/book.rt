@@ -19,7 +19,7 @@ pub struct LineState {
 /// A version book says of each line when it was last written and read, which warp has it reserved and with how many
 /// stores, and whether there is a slot for it. A time is a pair of stamp and warp.
 pub trait Book {
-    // The kind of book: its states, what each state says of a line, and what each call makes of a state.
+    // The kind of book: its states, what each state says of a line, and the state after each call.
     ghost kind: { Kind };
 
     // The state of a value.

@@ -1,4 +1,4 @@
--- A slot that may be taken leaves fifteen for the reserved lines.
+-- If a slot is free, at most fifteen lines are reserved.
 use Rattle.std.proofs.Common.{◌≡◌, ℕ, ◌+◌, ◌-◌, ◌<◌, ◌≤◌, true, cond, ⊎_elim, map, get_or, is_some, Some, None, Option, nat_lt, refl, sym, ap, subst, ◌∙◌, arith}
 use Rattle.std.proofs.lemmas.Bool.{and_parts, both_ways, cases_lt, cond-true, cond-false, lt-ltb, le-ltb, ltb-true}
 use Rattle.std.proofs.lemmas.Bool.{eqb-true, not-false, false_from_ne_true}
@@ -32,7 +32,7 @@ module _ (s : Condensed) (sound : IsSound s) where
   abbrev stores_in : ℕ → ℕ
   stores_in i = entry_stores (slot_entry (get_or s.slots i empty_slot))
 
-  -- Where a line that no store holds has a slot, no store holds the line in it.
+  -- If there is a slot for an unreserved line, no store holds the line in that slot.
   free_place :
       (n : ℕ) (o other : Option ℕ) → IsSlotOf s.slots n o → other ≡ choice_of (map slot_key s.slots)
       → entry_stores (entry_from s.slots s.filter n o) ≡ 0 → is_some (option_or o other) ≡ true

@@ -1,4 +1,4 @@
--- A new condensed book tells nothing, and has a slot for every line.
+-- A new condensed book has no stamp and no reservation, and a slot for every line.
 use Rattle.std.proofs.Common.{◌≡◌, ℕ, ◌<◌, true, ltb, List, get_or, replicate, is_some, Some, None, Option, refl, ap, ◌∙◌}
 use Rattle.std.proofs.lemmas.Bool.{and_from, lt-ltb}
 use Rattle.protocol.specs.Limits.{line_limit}

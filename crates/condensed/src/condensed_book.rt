@@ -66,7 +66,7 @@ impl CondensedBook {
         Some(SlotIndex { index })
     }
 
-    /// Whether there is a slot for a line, by the slot that it is in. None is chosen yet.
+    /// Whether there is a slot for a line: the slot that it is in, or else a free one.
     fn finds_slot(&self, inside: Option<SlotIndex>) -> bool
         ensures { result ≡ is_some (slot_or_choice self.now.slots (option_map slot_index inside)) }
     {

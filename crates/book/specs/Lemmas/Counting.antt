@@ -1,12 +1,12 @@
--- Lines that pass a test, counted: at least as many as different ones are known, at most as many as there are places
--- for them.
+-- The number of lines that pass a test: at least the number of different lines known to pass, and at most the number of
+-- places for them.
 use Rattle.std.specs.Prelude.{◌≡◌, ℕ, zero, suc, ◌+◌, ◌<◌, ◌≤◌, Bool, true, false, cond, not, ◌&&◌, ◌==◌, ◌≢◌, refl}
 use Rattle.std.proofs.Common.{⊎_elim, sym, ap, subst, ◌∙◌, arith}
 use Rattle.std.proofs.Math.Bool.{and-true, and-false}
 use Rattle.std.proofs.lemmas.Bool.{cases_eq, eq-eqb, ne_eqb, and_parts, not-true, both_ways, false_from_ne_true}
 use Rattle.book.specs.Meaning.{count_below}
 
--- A test that passes one line less.
+-- The test that passes the same lines but one.
 abbrev without : (ℕ → Bool) → ℕ → ℕ → Bool
 without test x n = test n && not (n == x)
 
@@ -46,7 +46,7 @@ counted_without test x (suc n) h t = ⊎_elim here (before (counted_without test
         let rest = shorter (omega arith) t in
         omega arith
 
--- Different lines that pass the test are no more than all that do.
+-- If k different lines pass the test, at least k lines do.
 pub different_lines :
     (k limit : ℕ) (f : ℕ → ℕ) (test : ℕ → Bool) → ((i : ℕ) → i < k → (f i < limit) × (test (f i) ≡ true))
     → ((i j : ℕ) → i < k → j < k → f i ≡ f j → i ≡ j) → k ≤ count_below test limit
@@ -63,7 +63,7 @@ different_lines (suc k) limit f test ok apart =
     let more = counted_without test (f k) limit last.0 last.1 in
     omega arith
 
--- No more lines pass than there are.
+-- At most all lines pass.
 at_most : (b : Bool) (m n : ℕ) → m ≤ n → cond b 1 0 + m ≤ suc n
 at_most true m n le = omega arith
 at_most false m n le = omega arith
@@ -72,7 +72,7 @@ pub counted_most : (test : ℕ → Bool) (limit : ℕ) → count_below test limi
 counted_most test zero = omega arith
 counted_most test (suc n) = at_most (test n) (count_below test n) n (counted_most test n)
 
--- Without one line the count falls by one at most.
+-- Without one line the count falls by at most one.
 counted_less : (test : ℕ → Bool) (x limit : ℕ) → count_below test limit ≤ suc (count_below (without test x) limit)
 counted_less test x zero = omega arith
 counted_less test x (suc n) = ⊎_elim here (apart (counted_less test x n)) (cases_eq n x)
@@ -97,7 +97,7 @@ none_counted test (suc n) none =
     let rest = none_counted test n (λ m lt. none m (omega arith)) in
     omega arith
 
--- Where each line that passes is in one of so many places, no more pass.
+-- If each line that passes is in one of k places, at most k lines pass.
 pub placed_lines :
     (k limit : ℕ) (line_at : ℕ → ℕ) (test : ℕ → Bool)
     → ((n : ℕ) → n < limit → test n ≡ true → (i : ℕ) × (i < k) × (line_at i ≡ n)) → count_below test limit ≤ k

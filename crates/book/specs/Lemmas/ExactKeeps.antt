@@ -1,4 +1,4 @@
--- The exact book keeps what every book must.
+-- The exact book keeps the laws of a book.
 use Rattle.std.specs.Prelude.{◌≡◌, ℕ, zero, suc, ◌+◌, ◌<◌, ◌≤◌, max, Bool, true, false, not, ◌&&◌, length, replicate, Some, None, Option, ◌==◌, ◌≢◌, nat_lt, slice_index_or, slice_set}
 use Rattle.std.proofs.Common.{⊎_elim, sym, ◌∙◌, length-set, get_or-set_same, get_or-set_other}
 use Rattle.std.proofs.Math.Path.{refl, ap, subst}
@@ -32,7 +32,7 @@ module _ (s : Exact) (good : exact.Good s) where
         room = λ _. lt-ltb line line_limit lt;
       }
 
-  -- An entry that fits may be set.
+  -- The state is sound after an entry that fits is set.
   pub sound_with_entry :
       (line : ℕ) (e : Entry) (later : ℕ) → s.latest ≤ later → FitsWithin later e
       → exact.Good (record { entries = slice_set s.entries line e; latest = later })
@@ -57,7 +57,7 @@ module _ (s : Exact) (good : exact.Good s) where
     pub entry_at-with_entry-other : (n : ℕ) → (n ≢ line) → entry_at (with_entry s line e stamp) n ≡ entry_at s n
     entry_at-with_entry-other n ne = get_or-set_other s.entries line n e untouched_entry ne
 
-    -- Where the entry's stamps are no earlier, no told stamp is.
+    -- If the entry's stamps are no earlier than before, no stamp of the book is.
     pub stamps_grow_with : NoEarlier (entry_at s line).stamps e.stamps → StampsGrow exact s (with_entry s line e stamp)
     stamps_grow_with up =
         record {
@@ -78,7 +78,7 @@ module _ (s : Exact) (good : exact.Good s) where
           same_owner = ap entry_owner (entry_at-with_entry-other n ne);
         }
 
-    -- Where the entry has the same stores and owner, no reservation changes.
+    -- If the entry keeps its stores and owner, no reservation changes.
     pub all_reservations_stay :
         entry_stores e ≡ entry_stores (entry_at s line) → entry_owner e ≡ entry_owner (entry_at s line)
         → (n : ℕ) → KeepsReservation exact s (with_entry s line e stamp) n
@@ -95,27 +95,27 @@ module _ (s : Exact) (good : exact.Good s) where
         (cases_eq n line)
 
   module _ (line : ℕ) (lt : line < line_limit) where
-    told : Entry
-    told = entry_at s line
+    old : Entry
+    old = entry_at s line
 
     pub keeps_note :
         (t : Time) → exact.Good (exact.note s line t) × Notes exact s (exact.note s line t) line t
-    unfolding told
+    unfolding old
     keeps_note t =
-        let e : Entry = entry_after_read told t in
-        let up : NoEarlier told.stamps e.stamps = later_stamps_first told.stamps (read_stamps t) in
+        let e : Entry = entry_after_read old t in
+        let up : NoEarlier old.stamps e.stamps = later_stamps_first old.stamps (read_stamps t) in
         let w = good.written line in
         let r = good.read line in
         let h = good.stamped line in (
           sound_with_entry line e (max s.latest t.0) (omega arith) (
             omega arith,
-            later_of_bound told.stamps.read t _ (omega arith) (omega arith),
+            later_of_bound old.stamps.read t _ (omega arith) (omega arith),
             (λ c. let p = h c in omega arith),
           ),
           record {
             grows = stamps_grow_with line lt e t.0 up;
             reaches = subst (λ x. earlier x.stamps.read t ≡ false) (sym (entry_at-with_entry line lt e t.0))
-                (later_stamps_second told.stamps (read_stamps t)).1;
+                (later_stamps_second old.stamps (read_stamps t)).1;
             stays = λ n _. all_reservations_stay line lt e t.0 refl refl n;
             latest_bound = omega arith;
             same_slots = refl;
@@ -124,16 +124,16 @@ module _ (s : Exact) (good : exact.Good s) where
 
     keeps_reserve :
         (t : Time) → exact.Good (exact.reserve s line t) × Reserves exact s (exact.reserve s line t) line t
-    unfolding told
+    unfolding old
     keeps_reserve t =
-        let e : Entry = entry_after_reserve told t in
-        let up : NoEarlier told.stamps e.stamps = later_stamps_first told.stamps (write_stamps (t.0 + 1)) in
+        let e : Entry = entry_after_reserve old t in
+        let up : NoEarlier old.stamps e.stamps = later_stamps_first old.stamps (write_stamps (t.0 + 1)) in
         let here : entry_at (exact.reserve s line t) line ≡ e = entry_at-with_entry line lt e (t.0 + 1) in
         let w = good.written line in
         let r = good.read line in (
           sound_with_entry line e (max s.latest (t.0 + 1)) (omega arith) (
             omega arith,
-            later_of_bound told.stamps.read (0, 0) _ (omega arith) (omega arith),
+            later_of_bound old.stamps.read (0, 0) _ (omega arith) (omega arith),
             (λ _. omega arith),
           ),
           record {
@@ -149,9 +149,9 @@ module _ (s : Exact) (good : exact.Good s) where
 
     keeps_add :
         0 < entry_stores (entry_at s line) → exact.Good (exact.add s line) × Adds exact s (exact.add s line) line
-    unfolding told
+    unfolding old
     keeps_add held =
-        let e : Entry = entry_after_add told in
+        let e : Entry = entry_after_add old in
         let here : entry_at (exact.add s line) line ≡ e = entry_at-with_entry line lt e 0 in
         let w = good.written line in
         let r = good.read line in
@@ -162,9 +162,9 @@ module _ (s : Exact) (good : exact.Good s) where
             (λ _. h),
           ),
           record {
-            grows = stamps_grow_with line lt e 0 (no_earlier_than_itself told.stamps);
-            one_more = ap entry_stores here ∙ hold_stores-hold_of (warp_or_first (entry_owner told)) (entry_stores told + 1);
-            same_owner = ap entry_owner here ∙ entry_owner-after_add told held;
+            grows = stamps_grow_with line lt e 0 (no_earlier_than_itself old.stamps);
+            one_more = ap entry_stores here ∙ hold_stores-hold_of (warp_or_first (entry_owner old)) (entry_stores old + 1);
+            same_owner = ap entry_owner here ∙ entry_owner-after_add old held;
             stays = λ n _ ne. other_reservations_stay line lt e 0 n ne;
             latest_bound = omega arith;
             same_slots = refl;
@@ -172,15 +172,15 @@ module _ (s : Exact) (good : exact.Good s) where
         )
 
     keeps_release : exact.Good (exact.release s line) × Releases exact s (exact.release s line) line
-    unfolding told
+    unfolding old
     keeps_release =
-        let e : Entry = entry_after_release told in
+        let e : Entry = entry_after_release old in
         let w = good.written line in
         let r = good.read line in (
           sound_with_entry line e (max s.latest 0) (omega arith)
               (omega arith, omega arith, (λ c. absurd (omega arith))),
           record {
-            grows = stamps_grow_with line lt e 0 (no_earlier_than_itself told.stamps);
+            grows = stamps_grow_with line lt e 0 (no_earlier_than_itself old.stamps);
             no_stores = ap entry_stores (entry_at-with_entry line lt e 0);
             stays = λ n _ ne. other_reservations_stay line lt e 0 n ne;
             latest_bound = omega arith;
@@ -188,7 +188,7 @@ module _ (s : Exact) (good : exact.Good s) where
           },
         )
 
--- The line of a granted call has a number.
+-- The line of a granted call is below the limit.
 pub line_in_range : (line : ℕ) (rest : Bool) → (nat_lt line line_limit && rest) ≡ true → line < line_limit
 line_in_range line rest can = ltb-true line line_limit (and_parts (nat_lt line line_limit) rest can).0
 

@@ -14,12 +14,12 @@ use Rattle.book.specs.declared.entry.Entry.{Entry}
 pub positive_unless_zero : (n : ℕ) → not (n == 0) ≡ true → 0 < n
 positive_unless_zero n h = let ne = eqb-false n 0 (not-true (n == 0) h) in omega arith
 
--- A hold of so many stores counts them.
+-- A hold made with a number of stores has that number.
 pub hold_stores-hold_of : (warp n : ℕ) → hold_stores (hold_of warp n) ≡ n
 hold_stores-hold_of warp zero = refl
 hold_stores-hold_of warp (suc n) = refl
 
--- A hold is the one of so many stores of its warp, however it was shown that there are some.
+-- A hold is determined by its warp and its number of stores, whatever the proof that it has some.
 pub hold_is_hold_of : (hold : Option Hold) → hold ≡ hold_of (warp_or_first (hold_owner hold)) (hold_stores hold)
 hold_is_hold_of None = refl
 hold_is_hold_of (Some hold) = by hold.stores hold.some
@@ -44,7 +44,7 @@ hold_owner-free (Some hold) none = absurd (let some = hold.some in omega arith)
 pub free_has_no_owner : (e : Entry) → not (entry_stores e == 0) ≡ false → entry_owner e ≡ None
 free_has_no_owner e h = hold_owner-free e.hold (eqb-true (entry_stores e) 0 (not-false (entry_stores e == 0) h))
 
--- One store more leaves the owner of some stores, and so that of a line that stores hold.
+-- One more store keeps the owner of some stores, and so that of a reserved line.
 hold_owner-hold_of : (n w : ℕ) → 0 < n → hold_owner (hold_of w n) ≡ Some w
 hold_owner-hold_of zero w some = absurd (omega arith)
 hold_owner-hold_of (suc n) w some = refl

@@ -3,7 +3,7 @@ use Rattle.std.specs.Prelude.{◌≡◌, ℕ, zero, suc, ◌<◌, List, [], ◌�
 use Rattle.std.proofs.Common.{⊎_elim, refl, subst, sym, get_or-set_same, get_or-set_other}
 use Rattle.std.proofs.lemmas.Bool.{cases_eq}
 
--- What holds of the element that is set, and of the one that was there, holds of whichever is there now.
+-- A fact of the element that is set and of the element that was at a place holds of the element there afterwards.
 pub holds_after_set :
     {X : Type 0} (P : X → Type 0) (xs : List X) (i n : ℕ) (x d : X) → P x → P (slice_index_or xs n d)
     → P (slice_index_or (slice_set xs i x) n d)
@@ -13,7 +13,7 @@ holds_after_set P (y ∷ ys) zero (suc n) x d new old = old
 holds_after_set P (y ∷ ys) (suc i) zero x d new old = old
 holds_after_set P (y ∷ ys) (suc i) (suc n) x d new old = holds_after_set P ys i n x d new old
 
--- The same, by whether the place is the one that is set.
+-- The same, with the case that the place is the one that is set apart from the other.
 pub holds_after_set_by_place :
     {X : Type 0} (P : X → Type 0) (xs : List X) (i n : ℕ) (x d : X) → i < length xs
     → (n ≡ i → P x) → ((n ≢ i) → P (slice_index_or xs n d)) → P (slice_index_or (slice_set xs i x) n d)

@@ -1,4 +1,4 @@
--- Times and stamps in order: which of two are no earlier, and what the later and the earlier of each keep.
+-- The order of times and of stamps, and bounds of the later and the earlier of two.
 use Rattle.std.specs.Prelude.{◌≡◌, ℕ, ◌≤◌, false}
 use Rattle.std.proofs.Common.{arith}
 use Rattle.std.proofs.lemmas.Bool.Decides.{nat_tests}
@@ -6,7 +6,7 @@ use Rattle.book.specs.Time.{Time, earlier}
 use Rattle.book.specs.Entries.{later_of, earlier_of, later_stamps, earlier_stamps}
 use Rattle.book.specs.declared.entry.Stamps.{Stamps}
 
--- Both stamps of the second are no earlier than those of the first.
+-- Neither stamp of the second is earlier than that of the first.
 abbrev pub NoEarlier : Stamps → Stamps → Type 0
 NoEarlier a b = (a.write ≤ b.write) × (earlier b.read a.read ≡ false)
 
@@ -43,7 +43,7 @@ earlier_of_grows a b c d p q =
 pub earlier_of_bound : (a b : Time) (m : ℕ) → a.0 ≤ m → (earlier_of a b).0 ≤ m
 earlier_of_bound a b m p = grind (arith, nat_tests)
 
--- A time that is not before another has no smaller stamp.
+-- A time that is not earlier than another has no smaller stamp.
 pub stamp_bound_by_time : (a b : Time) → earlier b a ≡ false → a.0 ≤ b.0
 stamp_bound_by_time a b p = grind (arith, nat_tests)
 
@@ -66,7 +66,7 @@ pub earlier_stamps_grow : (a b c d : Stamps) → NoEarlier a c → NoEarlier b d
 earlier_stamps_grow a b c d p q =
     (omega arith, earlier_of_grows a.read b.read c.read d.read p.1 q.1)
 
--- No time is before the first one, and one that is not before two others is not before the later of them.
+-- No time is earlier than the first one. A time not earlier than two others is not earlier than the later of them.
 pub not_earlier_than_zero : (a : Time) → earlier a (0, 0) ≡ false
 not_earlier_than_zero a = grind (arith, nat_tests)
 

@@ -1,4 +1,4 @@
--- What each call of the condensed book makes of what it tells, and that the books that come up stay such.
+-- What each change of the condensed book does to each line, and that the book stays sound.
 use Rattle.std.specs.Prelude.{◌≡◌, ℕ, ◌<◌, ◌≤◌, true, false, List, length, get_or, Some, None, Option, ◌==◌, ◌≢◌, slice_index_or, slice_set}
 use Rattle.std.proofs.Common.{⊎_elim, ◌∙◌, arith, length-set, get_or-set_same, get_or-set_other}
 use Rattle.std.proofs.Math.Path.{refl, sym, ap, subst}
@@ -22,7 +22,7 @@ use Rattle.condensed.specs.Lemmas.Slots.{IsSlotOf, slot_of_law, slot_of-held, sl
 use Rattle.condensed.specs.Lemmas.Slots.{slot_line-set}
 use Rattle.condensed.specs.Lemmas.SoundLines.{line_entry-in_range}
 
--- A line is told no earlier than before, with the same stores and owner.
+-- A line's stamps are no earlier than before, and its stores and owner are the same.
 pub record IsKept (a b : Entry) : Type 0 where
   pub up : NoEarlier a.stamps b.stamps
   pub same_stores : entry_stores b ≡ entry_stores a
@@ -39,7 +39,7 @@ kept_if_same a b e =
 pub kept_free : (a b : Stamps) → NoEarlier a b → IsKept (free_entry a) (free_entry b)
 kept_free a b up = record { up = up; same_stores = refl; same_owner = refl }
 
--- An entry that no store holds is turned out, and its line told by stamps no earlier.
+-- The entry of an evicted line, which no store holds, against the stamps that the filter has for it.
 kept_after_eviction : (a : Entry) (b : Stamps) → entry_stores a ≡ 0 → NoEarlier a.stamps b → IsKept a (free_entry b)
 kept_after_eviction a b none up =
     record {
@@ -48,7 +48,7 @@ kept_after_eviction a b none up =
       same_owner = sym (hold_owner-free a.hold none);
     }
 
--- The stamps of every entry of a filter are within a stamp.
+-- No stamp in the filter is later than a given one.
 pub record IsWithin (filter : List (List Stamps)) (latest : ℕ) : Type 0 where
   pub ways : FourWays filter
   pub written : (way k : ℕ) → (stamps_at filter way k).write ≤ latest
@@ -75,7 +75,7 @@ within_later filter latest later w up =
       read = λ way k. let h = w.read way k in omega arith;
     }
 
--- A line is moved into a slot, and whoever was in it is turned out.
+-- A line takes a slot, and the line that was in it is evicted.
 abbrev pub moved_to : Condensed → ℕ → ℕ → Entry → ℕ → Condensed
 moved_to s line i e later =
     record {
@@ -88,7 +88,7 @@ module _ (s : Condensed) (sound : IsSound s) where
   pub filter_is_within : IsWithin s.filter s.latest
   filter_is_within = record { ways = sound.four_ways; written = sound.filter_written; read = sound.filter_read }
 
-  -- A slot may be set whose entry fits.
+  -- The book is sound after a slot with an entry that fits is set.
   pub sound_with :
       (i : ℕ) (x : Slot) (filter : List (List Stamps)) (later : ℕ) → s.latest ≤ later → FitsWithin later (slot_entry x)
       → HoldDistinctLines (slice_set s.slots i x) → HoldNumberedLines (slice_set s.slots i x) → IsWithin filter later
@@ -203,7 +203,7 @@ module _ (s : Condensed) (sound : IsSound s) where
         (λ a n h. sound.numbered a n (subst (λ l. is_line l n ≡ true) (slot_line-set s.slots i x its_line a) h))
         (within_later s.filter s.latest later filter_is_within up)
 
-  -- Whoever is turned out raises its entries; nobody's entries get earlier.
+  -- An eviction makes no entry of the filter earlier.
   eviction_grows : (line : ℕ) (stamps : Stamps) (o : Option ℕ) → Grown s.filter (filter_raised_for s.filter stamps line o)
   eviction_grows line stamps None = λ way k. no_earlier_than_itself (stamps_at s.filter way k)
   eviction_grows line stamps (Some m) =

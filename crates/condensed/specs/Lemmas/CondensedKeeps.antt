@@ -1,4 +1,4 @@
--- The condensed book keeps what every book must.
+-- The condensed book keeps the laws of a book.
 use Rattle.std.specs.Prelude.{◌≡◌, ℕ, zero, suc, ◌+◌, ◌<◌, ◌≤◌, max, true, false, List, [], map, length, get_or, replicate, is_some, Some, None, Option, ◌==◌, ◌≢◌, nat_lt, slice_index_or}
 use Rattle.std.proofs.Common.{⊎_elim, sym, ap, ◌∙◌, arith}
 use Rattle.std.proofs.Math.Path.{refl, subst}
@@ -31,7 +31,7 @@ use Rattle.condensed.specs.Lemmas.Changes.{changed_here, changed_apart, sound_ch
 use Rattle.condensed.specs.Lemmas.Changes.{eviction_is_within, moved_apart, moved_numbered, moved_to, moved_here, moved_kept}
 use Rattle.condensed.specs.Lemmas.Changes.{sound_moved}
 
--- Where every other line is kept and the line is told no earlier, nothing told gets earlier.
+-- If every other line is kept and the stamps of the line get no earlier, no stamp of the book gets earlier.
 module _ (s s' : Condensed) (line : ℕ) (others : (n : ℕ) → n < line_limit → (n ≢ line)
     → IsKept (line_entry s n) (line_entry s' n)) where
   grows_by : NoEarlier (line_entry s line).stamps (line_entry s' line).stamps → StampsGrow condensed s s'
@@ -45,7 +45,7 @@ module _ (s s' : Condensed) (line : ℕ) (others : (n : ℕ) → n < line_limit 
   stays_by : (n : ℕ) → n < line_limit → (n ≢ line) → KeepsReservation condensed s s' n
   stays_by n lt ne = let k = others n lt ne in record { same_stores = k.same_stores; same_owner = k.same_owner }
 
--- A slot is left to a line.
+-- The book is sound after an eviction.
 pub sound_after_eviction : (s : Condensed) → IsSound s → (line place : ℕ) → IsSound (after_eviction s line place)
 sound_after_eviction s sound line place =
     sound_with_filter s sound (filter_after_eviction s.filter (slice_index_or s.slots place empty_slot) line) s.latest (omega arith)
@@ -130,7 +130,7 @@ module _ (s : Condensed) (sound : IsSound s) (line : ℕ) (lt : line < line_limi
           },
         )
 
-    -- The line starts from what was told of it.
+    -- The line starts from its entry before the call.
     e : Entry
     e = entry_after_reserve (line_entry s line) t
 
@@ -202,7 +202,7 @@ module _ (s : Condensed) (sound : IsSound s) (line : ℕ) (lt : line < line_limi
             (sym (ap (filter_raised_for s.filter (slot_entry (get_or s.slots i empty_slot)).stamps line) its_line
             ∙ cond-true (line == line) s.filter _ (eq-eqb line line refl)))
 
-  -- A line may be written into the slot that is for it, with an entry that fits.
+  -- The book is sound after a line is written into the slot for it, with an entry that fits.
   pub sound_with_slot :
       (e : Entry) (place later : ℕ) → slot_for s.slots line ≡ Some place → s.latest ≤ later → FitsWithin later e
       → IsSound (record { slots = slots_with s line place e; filter = s.filter; latest = later })

@@ -1,4 +1,4 @@
--- The filter: raising entries makes nothing told earlier, and reaches what the line was raised to.
+-- Raising entries of the filter makes no stamp earlier, and raises the stamps of the line as far as wanted.
 use Rattle.std.specs.Prelude.{◌≡◌, ℕ, zero, suc, ◌<◌, ◌≤◌, List, [], ◌∷◌, length, slice_index, slice_index_or, slice_set}
 use Rattle.std.proofs.Common.{sym, subst, ◌∙◌, get_or-set_same}
 use native.Mathlib.Omega.{arith}

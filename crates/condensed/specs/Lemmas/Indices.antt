@@ -7,7 +7,7 @@ use Rattle.std.proofs.lemmas.List.{drop_more, drop_all}
 use Rattle.std.proofs.lemmas.Bool.{cond_both, ltb-true, and_parts}
 use Rattle.condensed.specs.Filter.{index_by, all_below_64, indices_of, AreInside, way_0, way_1, way_2, way_3}
 
--- One bit on: the number counts where the bit is set.
+-- One bit further: its number counts if the bit is set.
 pub index_more :
     (numbers : List ℕ) (i number index bits next : ℕ) → i < length numbers → number ≡ slice_index numbers i
     → next ≡ cond (bits % 2 == 1) (bit_xor index number) index
@@ -26,7 +26,7 @@ index_more numbers i number index bits next lt is step =
     by true = refl
     by false = sym (xor_zero_r index)
 
--- The same where the bits are what is left of the line's number.
+-- The same for the rest of the bits of the line's number.
 pub index_next :
     (numbers : List ℕ) (i number index line next : ℕ) → i < length numbers → number ≡ slice_index numbers i
     → next ≡ cond (line / 2 ^ i % 2 == 1) (bit_xor index number) index

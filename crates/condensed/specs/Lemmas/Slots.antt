@@ -1,4 +1,4 @@
--- Where a line is found among the slots, and what a change of one slot leaves.
+-- The slot that a line is in, and what the change of one slot keeps.
 use Rattle.std.specs.Prelude.{◌≡◌, ℕ, zero, suc, ◌<◌, Bool, true, false, cond, List, [], ◌∷◌, length, get_or, Some, None, Option, slice_index_or, slice_set, nat_lt, refl}
 use Rattle.std.proofs.Common.{⊎_elim, sym, ap, subst, ◌∙◌, arith, length-set}
 use Rattle.std.proofs.lemmas.Bool.{cond-true, eqb-true, eq-eqb, lt-ltb, ltb-true, ltb-false, cases_lt, both_ways}
@@ -21,7 +21,7 @@ pub same_back : (a : Option ℕ) (n : ℕ) → same_line a (Some n) ≡ true →
 same_back None n h = absurd (both_ways false refl h)
 same_back (Some m) n h = eq-eqb m n (sym (eqb-true n m h))
 
--- A line is found in a slot that holds it, or no slot holds it.
+-- A line is in a slot that holds it, or no slot holds it.
 abbrev pub IsSlotOf : List Slot → ℕ → Option ℕ → Type 0
 IsSlotOf slots n None = (k : ℕ) → slot_holds (slice_index_or slots k empty_slot) n ≡ false
 IsSlotOf slots n (Some i) = (i < length slots) × (slot_holds (slice_index_or slots i empty_slot) n ≡ true)
@@ -65,7 +65,7 @@ slot_of-none slots n h = by (slot_of slots n) (slot_of_law slots n)
     by None s = refl
     by (Some i) s = absurd (both_ways (slot_holds (slice_index_or slots i empty_slot) n) (h i s.0) s.1)
 
--- Where no line is in two slots, a line is found in whichever slot holds it.
+-- If no line is in two slots, a line is in the slot that holds it.
 pub slot_of-held :
     (slots : List Slot) → HoldDistinctLines slots → (n i : ℕ) → slot_holds (slice_index_or slots i empty_slot) n ≡ true
     → slot_of slots n ≡ Some i

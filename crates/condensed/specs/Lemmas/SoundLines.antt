@@ -1,4 +1,4 @@
--- The condensed book tells what every book must, and has a slot while fewer than sixteen lines are reserved.
+-- Each line of the condensed book is sound, and has a slot while fewer than sixteen lines are reserved.
 use Rattle.std.specs.Prelude.{◌≡◌, ℕ, ◌<◌, ◌≤◌, true, false, List, map, length, get_or, is_some, Some, None, Option, nat_eq, nat_lt, slice_index_or}
 use Rattle.std.proofs.Math.Path.{refl}
 use Rattle.std.proofs.Common.{sym, ap, subst, ◌∙◌, arith}
@@ -23,7 +23,7 @@ use Rattle.condensed.specs.Lemmas.Filters.{filter_stamps_write_bound, filter_sta
 use Rattle.condensed.specs.Lemmas.Slots.{IsSlotOf, slot_of_law, is_line_is_some, slot_of-held, same_from}
 use Rattle.book.specs.Lemmas.Counting.{different_lines, placed_lines}
 
--- A line with a number is told from its slot or from the filter.
+-- The entry of a line below the limit is that of its slot, or has the stamps of the filter.
 pub line_entry-in_range : (s : Condensed) (n : ℕ) → n < line_limit → line_entry s n
     ≡ entry_from s.slots s.filter n (slot_of s.slots n)
 line_entry-in_range s n lt =
@@ -43,7 +43,7 @@ free_with_key (Some there) key h = grind (arith, nat_tests)
 too_many : (n : ℕ) → n < 16 → 16 ≤ n → is_some {T = ℕ} None ≡ true
 too_many n few all = absurd (omega arith)
 
--- A chosen slot is a slot, and no store holds the line in it.
+-- A chosen slot is one of the slots, and no store holds the line in it.
 pub chosen_slot_is_free :
     (slots : List Slot) (place : ℕ) → choice_of (map slot_key slots) ≡ Some place
     → (place < length slots) × (entry_stores (slot_entry (get_or slots place empty_slot)) ≡ 0)
@@ -102,7 +102,7 @@ module _ (s : Condensed) (sound : IsSound s) where
       placed_lines 16 line_limit line_at (is_reserved condensed s)
       (λ n lt held. let place = reserved_line_has_slot n lt held in (place.0, place.1, place.2))
 
-  -- Where no slot may be taken, sixteen lines are reserved.
+  -- If no slot is free, sixteen lines are reserved.
   module _ (full : (k : ℕ) → k < 16 → slot_key (slice_index_or s.slots k empty_slot) ≡ None) where
     in_line : (k : ℕ) → k < 16 → slot_holds (slice_index_or s.slots k empty_slot) (line_at k) ≡ true
     unfolding line_at

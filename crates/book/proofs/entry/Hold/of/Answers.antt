@@ -1,4 +1,4 @@
--- However it was shown that there are stores, the hold is the one of so many.
+-- A hold is determined by its warp and its number of stores, whatever the proof that it has some.
 use Rattle.book.specs.Lemmas.Holds.{hold_is_hold_of}
 use Rattle.book.proofs.entry.Hold.of.Goals as goal
 

@@ -1,4 +1,4 @@
--- What the filter tells is not past the latest stamp either.
+-- The filter's stamps are no later than the latest stamp.
 use Rattle.std.proofs.Common.{sym, subst}
 use Rattle.condensed.specs.Condensed.{IsBounded}
 use Rattle.condensed.specs.Lemmas.Filters.{filter_stamps_write_bound, filter_stamps_read_bound}

@@ -1,4 +1,4 @@
--- The filter may be raised to the stamps of a line that is in a slot.
+-- The book is sound after the filter is raised to the stamps of an evicted line.
 use Rattle.std.proofs.Common.{◌<◌, length, sym, ap, subst, ◌∙◌, arith}
 use Rattle.std.proofs.lemmas.List.{get_or_default}
 use Rattle.condensed.specs.Condensed.{Condensed, IsSound, empty_slot, condensed_of, filter_after_eviction}

@@ -1,4 +1,4 @@
--- An entry that fits may be written into the slot that is for its line.
+-- The book is sound after an entry that fits is written into the slot for its line.
 use Rattle.std.proofs.Common.{sym, ap, subst, arith}
 use Rattle.condensed.specs.Condensed.{Condensed, IsSound, slots_with, condensed_of}
 use Rattle.condensed.specs.CondensedState.{condensed_state}

@@ -1,4 +1,4 @@
--- A new book is one of those that come up, and tells nothing.
+-- A new book is sound, and has no stamp and no reservation.
 use Rattle.std.proofs.Common.{◌≡◌, replicate, sym, ap, subst}
 use Rattle.book.specs.Meaning.{IsNew}
 use Rattle.book.proofs.Earliest.{exact_is_earliest}

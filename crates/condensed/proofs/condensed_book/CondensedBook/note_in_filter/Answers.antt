@@ -1,4 +1,4 @@
--- The filter may be raised together with the latest stamp.
+-- The book is sound after the filter and the latest stamp are raised.
 use Rattle.std.proofs.Common.{◌≡◌, None, sym, subst}
 use Rattle.condensed.specs.Condensed.{Condensed, IsSound, after_note, condensed_of}
 use Rattle.condensed.specs.CondensedState.{condensed_state}

@@ -1,22 +1,29 @@
 -- No book has earlier stamps than the exact one.
-use Rattle.std.proofs.Common.{◌≡◌, ℕ, ◌+◌, ◌<◌, ◌≤◌, max, Bool, true, false, cond, not, ◌&&◌, eqb, ltb, leb, List, [], ◌∷◌, length, Ok, Err, sym, refl, ap, ◌∙◌, subst, arith}
-use Rattle.std.proofs.lemmas.Bool.{cond-true, and_parts, and_from, lt-ltb, ltb-true, leb-true, leb-false}
+use Rattle.std.proofs.Common.{◌≡◌, ℕ, ◌+◌, ◌<◌, ◌≤◌, max, Bool, true, false, cond, not, ◌&&◌, eqb}
+use Rattle.std.proofs.Common.{ltb, leb, List, [], ◌∷◌, length, Ok, Err, sym, refl, ap, ◌∙◌, subst}
+use Rattle.std.proofs.Common.{arith}
+use Rattle.std.proofs.lemmas.Bool.{cond-true, and_parts, and_from, lt-ltb, ltb-true, leb-true}
+use Rattle.std.proofs.lemmas.Bool.{leb-false}
 use Rattle.protocol.specs.Limits.{line_limit, log_limit}
 use Rattle.book.specs.Time.{earlier}
 use Rattle.book.specs.Meaning.{Kind, Keeps, IsNew, StampsGrow, can_note, is_reserved}
-use Rattle.book.specs.Entries.{untouched_entry, entry_after_read, entry_after_reserve, entry_after_add, entry_after_release}
+use Rattle.book.specs.Entries.{untouched_entry, entry_after_read, entry_after_reserve}
+use Rattle.book.specs.Entries.{entry_after_add, entry_after_release}
 use Rattle.book.specs.Entries.{entry_stores, entry_owner, warp_or_first}
 use Rattle.book.specs.Exact.{Exact, exact, exact_new, entry_at, with_entry}
-use Rattle.book.specs.Earliest.{is_granted, state_after_granted, state_after_call, both_after_call, both_after_calls, IsEarliest}
+use Rattle.book.specs.Earliest.{is_granted, state_after_granted, state_after_call, both_after_call}
+use Rattle.book.specs.Earliest.{both_after_calls, IsEarliest}
 use Rattle.book.specs.Grants.{grant_result}
 use Rattle.book.specs.declared.refused.Refused.{Refused}
 use Rattle.book.specs.declared.entry.Entry.{Entry}
 use Rattle.book.specs.declared.call.BookCall.{BookCall}
 use Rattle.book.specs.declared.call.BookCall.TheVariants.{Note, Reserve, Add, Release}
-use Rattle.book.specs.Lemmas.Times.{not_earlier_chain, not_earlier_than_zero, later_of_least, later_of_second, stamp_bound_by_time}
+use Rattle.book.specs.Lemmas.Times.{not_earlier_chain, not_earlier_than_zero, later_of_least}
+use Rattle.book.specs.Lemmas.Times.{later_of_second, stamp_bound_by_time}
 use Rattle.book.specs.Lemmas.ListSet.{holds_after_set_by_place}
 use Rattle.book.specs.Lemmas.Holds.{hold_stores-hold_of}
-use Rattle.book.specs.Lemmas.ExactKeeps.{exact_keeps, exact_new_is_sound, entry_at-exact_new, line_in_range, entry_at-with_entry}
+use Rattle.book.specs.Lemmas.ExactKeeps.{exact_keeps, exact_new_is_sound, entry_at-exact_new}
+use Rattle.book.specs.Lemmas.ExactKeeps.{line_in_range, entry_at-with_entry}
 
 -- Some line of the exact book has a stamp as late as its latest stamp.
 LatestIsReached : Exact → Type 0

@@ -24,7 +24,8 @@ module _ (k : Kind) (s : k.State) where
   abbrev pub state_after_call : BookCall → k.State
   state_after_call call = cond (is_granted call) (state_after_granted call) s
 
--- A book and the exact book get the same calls: those that the first grants. A call that it refuses goes to neither.
+-- A book and the exact book get the same calls: those that the first grants. A call that it refuses
+-- goes to neither.
 abbrev pub both_after_call : (k : Kind) → k.State × Exact → BookCall → k.State × Exact
 both_after_call k both call =
     cond (is_granted k both.0 call) (state_after_granted k both.0 call, state_after_call exact both.1 call) both
@@ -33,8 +34,8 @@ abbrev pub both_after_calls : (k : Kind) → k.State × Exact → List BookCall 
 both_after_calls k both [] = both
 both_after_calls k both (call ∷ calls) = both_after_calls k (both_after_call k both call) calls
 
--- No write stamp and no read mark of the exact book is later than the other book's, nor is its latest stamp, and it
--- grants every call that the other grants.
+-- No write stamp and no read mark of the exact book is later than the other book's, nor is its
+-- latest stamp, and it grants every call that the other grants.
 pub record NoLater (k : Kind) (both : k.State × Exact) : Type 0 where
   pub stamps : (n : ℕ) → n < line_limit → exact.write_stamp both.1 n ≤ k.write_stamp both.0 n
   pub marks : (n : ℕ) → n < line_limit → earlier (k.read_mark both.0 n) (exact.read_mark both.1 n) ≡ false

@@ -62,15 +62,17 @@ abbrev pub warp_or_first : Option ℕ → ℕ
 warp_or_first None = 0
 warp_or_first (Some warp) = warp
 
--- A line that a warp reserves, its write stamp raised to a stamp; a line with another number of stores.
+-- A line that a warp reserves, its write stamp raised to a stamp; a line with another number of
+-- stores.
 abbrev pub reserved_entry : Entry → ℕ → ℕ → Entry
 reserved_entry e warp stamp = record { stamps = later_stamps e.stamps (write_stamps stamp); hold = hold_of warp 1 }
 
 abbrev pub entry_with_stores : Entry → ℕ → Entry
 entry_with_stores e stores = record { stamps = e.stamps; hold = hold_of (warp_or_first (entry_owner e)) stores }
 
--- A line after each call. A read raises its read mark. A reservation gives it to the time's warp, and a transaction
--- whose stamp is not later comes too late from then on. An add counts one more store. A release keeps the stamps.
+-- A line after each call. A read raises its read mark. A reservation gives it to the time's warp,
+-- and a transaction whose stamp is not later comes too late from then on. An add counts one more
+-- store. A release keeps the stamps.
 abbrev pub entry_after_read : Entry → Time → Entry
 entry_after_read e t = record { stamps = later_stamps e.stamps (read_stamps t); hold = e.hold }
 

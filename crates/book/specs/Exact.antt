@@ -1,8 +1,10 @@
 -- The exact book: an entry for each line, and the latest stamp.
-use Rattle.std.specs.Prelude.{◌≡◌, ℕ, ◌+◌, ◌<◌, ◌≤◌, max, List, length, get_or, replicate, nat_lt, slice_index_or, slice_set}
+use Rattle.std.specs.Prelude.{◌≡◌, ℕ, ◌+◌, ◌<◌, ◌≤◌, max, List, length, get_or, replicate, nat_lt}
+use Rattle.std.specs.Prelude.{slice_index_or, slice_set}
 use Rattle.protocol.specs.Limits.{line_limit}
 use Rattle.book.specs.Meaning.{Kind}
-use Rattle.book.specs.Entries.{untouched_entry, entry_after_read, entry_after_reserve, entry_after_add, entry_after_release, entry_stores, entry_owner}
+use Rattle.book.specs.Entries.{untouched_entry, entry_after_read, entry_after_reserve}
+use Rattle.book.specs.Entries.{entry_after_add, entry_after_release, entry_stores, entry_owner}
 use Rattle.book.specs.declared.entry.Entry.{Entry}
 
 -- The state of the book: an entry for each line, line 0 first, and the latest stamp.

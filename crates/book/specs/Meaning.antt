@@ -1,9 +1,11 @@
 -- What a version book says of each line, what its calls do, and the laws of every book.
-use Rattle.std.specs.Prelude.{◌≡◌, ℕ, zero, suc, ◌+◌, ◌<◌, ◌≤◌, max, Bool, true, false, cond, not, ◌&&◌, Some, None, Option, ◌==◌, ◌≢◌, nat_le, nat_lt}
+use Rattle.std.specs.Prelude.{◌≡◌, ℕ, zero, suc, ◌+◌, ◌<◌, ◌≤◌, max, Bool, true, false, cond, not}
+use Rattle.std.specs.Prelude.{◌&&◌, Some, None, Option, ◌==◌, ◌≢◌, nat_le, nat_lt}
 use Rattle.protocol.specs.Limits.{line_limit, warp_limit, log_limit, last_stamp}
 use Rattle.book.specs.Time.{Time, earlier}
 
--- A kind of book: its states, what a state says of each line, and the state after each granted call.
+-- A kind of book: its states, what a state says of each line, and the state after each granted
+-- call.
 pub record Kind : Type 1 where
   pub State : Type 0
   -- the sound states, which each kind defines for itself
@@ -28,7 +30,8 @@ abbrev pub count_below : (ℕ → Bool) → ℕ → ℕ
 count_below test zero = 0
 count_below test (suc n) = cond (test n) 1 0 + count_below test n
 
--- A time that a call may name: its stamp is not past the end of the clock, and there is such a warp.
+-- A time that a call may name: its stamp is not past the end of the clock, and there is such a
+-- warp.
 abbrev pub is_valid_time : Time → Bool
 is_valid_time t = nat_le t.0 last_stamp && nat_lt t.1 warp_limit
 
@@ -73,7 +76,8 @@ module _ (k : Kind) (s : k.State) where
     -- neither stamp is later than the latest stamp
     pub stamp_bound : k.write_stamp s line ≤ k.latest s
     pub mark_bound : (k.read_mark s line).0 ≤ k.latest s
-    -- a reserved line has an owner, a write stamp above 0 and a slot, and an unreserved line has no owner
+    -- a reserved line has an owner, a write stamp above 0 and a slot, and an unreserved line has no
+    -- owner
     pub owned : is_reserved line ≡ true → (w : ℕ) × (k.owner s line ≡ Some w)
     pub stamped : is_reserved line ≡ true → 0 < k.write_stamp s line
     pub placed : is_reserved line ≡ true → k.has_slot s line ≡ true
@@ -109,7 +113,8 @@ module _ (k : Kind) (s s' : k.State) where
     pub latest_bound : k.latest s' ≤ max (k.latest s) t.0
     pub same_slots : k.slots s' ≡ k.slots s
 
-  -- A reservation gives the line one store, made by the time's warp, and raises the write stamp above the time's.
+  -- A reservation gives the line one store, made by the time's warp, and raises the write stamp
+  -- above the time's.
   pub record Reserves (line : ℕ) (t : Time) : Type 0 where
     pub grows : StampsGrow
     pub one_store : k.stores s' line ≡ 1

@@ -16,8 +16,9 @@ pub struct LineState {
     pub has_slot: bool,
 }
 
-/// A version book says of each line when it was last written and read, which warp has it reserved and with how many
-/// stores, and whether there is a slot for it. A time is a pair of stamp and warp.
+/// A version book says of each line when it was last written and read, which warp has it reserved
+/// and with how many stores, and whether there is a slot for it. A time is a pair of stamp and
+/// warp.
 pub trait Book {
     // The kind of book: its states, what each state says of a line, and the state after each call.
     ghost kind: { Kind };

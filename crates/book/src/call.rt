@@ -60,8 +60,9 @@ pub fn make<B: Book>(book: &mut B, call: BookCall) -> Result<(), Refused>
     }
 }
 
-/// Makes a call of a book and, if it is granted, of the exact book too. In every run of such calls from two new books,
-/// the exact book grants each call that the other grants, and none of its stamps, marks or latest stamps is later.
+/// Makes a call of a book and, if it is granted, of the exact book too. In every run of such calls
+/// from two new books, the exact book grants each call that the other grants, and none of its
+/// stamps, marks or latest stamps is later.
 #[tactic(auto, using(crate::proofs::Earliest::made_of_both))]
 pub fn make_both<B: Book>(
     book: &mut B,

@@ -7,13 +7,15 @@ use protocol::limits::{LAST_STAMP, WARPS};
 /// How late a line was written and read.
 #[derive(Clone, Copy, PartialEq, Eq, Debug)]
 pub struct Stamps {
-    /// The write stamp: a transaction with a smaller stamp comes too late to read or write the line.
+    /// The write stamp: a transaction with a smaller stamp comes too late to read or write the
+    /// line.
     pub write: u32,
     /// The read mark: a transaction at an earlier time comes too late to write the line.
     pub read: (u32, u32),
 }
 
-/// The reservation of a line: how many stores hold it, and the warp that made them. Only an entry makes one.
+/// The reservation of a line: how many stores hold it, and the warp that made them. Only an entry
+/// makes one.
 #[derive(Clone, Copy, PartialEq, Eq, Debug)]
 pub struct Hold {
     warp: u32,
@@ -28,7 +30,8 @@ pub struct Entry {
     pub hold: Option<Hold>,
 }
 
-/// Whether a call may name this time: its stamp is not past the end of the clock, and there is such a warp.
+/// Whether a call may name this time: its stamp is not past the end of the clock, and there is such
+/// a warp.
 pub fn is_valid_time(time: (u32, u32)) -> bool
     ensures { result ≡ is_valid_time time }
 {
@@ -131,7 +134,8 @@ impl Entry {
         }
     }
 
-    /// The entry with another number of stores, of the same owner. Without an owner they are warp 0's.
+    /// The entry with another number of stores, of the same owner. Without an owner they are warp
+    /// 0's.
     pub fn with_stores(self, stores: u32) -> Entry
         ensures { result ≡ entry_with_stores self stores }
     {

@@ -1,8 +1,10 @@
-//! The exact book: an entry for each line, so that its stamps are the earliest that a book may have.
+//! The exact book: an entry for each line, so that its stamps are the earliest that a book may
+//! have.
 ghost use Rattle.std.specs.Prelude.{◌≡◌, ◌<◌, max};
 ghost use Rattle.protocol.specs.Limits.{line_limit};
 ghost use Rattle.book.specs.Meaning.{IsNew};
-ghost use Rattle.book.specs.Exact.{IsSound, FitsWithin, exact, exact_of, exact_new, entry_at, with_entry};
+ghost use Rattle.book.specs.Exact.{IsSound, FitsWithin, exact, exact_of, exact_new, entry_at};
+ghost use Rattle.book.specs.Exact.{with_entry};
 
 use crate::book::Book;
 use crate::entry::{Entry, is_valid_time};

@@ -1,5 +1,6 @@
 -- A slot is free exactly if one is chosen.
-use Rattle.std.proofs.Common.{◌≡◌, ℕ, ◌+◌, Bool, true, false, cond, ◌||◌, List, [], ◌∷◌, map, is_some, nat_le, Some, None, Option, refl, sym, ap, ◌∙◌}
+use Rattle.std.proofs.Common.{◌≡◌, ℕ, ◌+◌, Bool, true, false, cond, ◌||◌, List, [], ◌∷◌, map}
+use Rattle.std.proofs.Common.{is_some, nat_le, Some, None, Option, refl, sym, ap, ◌∙◌}
 use Rattle.std.specs.Option.{option_map}
 use Rattle.choice.specs.Rule.{better_of, best_from}
 use Rattle.condensed.specs.Condensed.{any_free, slot_key, slot_or_choice}

@@ -1,6 +1,8 @@
 -- If a slot is free, at most fifteen lines are reserved.
-use Rattle.std.proofs.Common.{◌≡◌, ℕ, ◌+◌, ◌-◌, ◌<◌, ◌≤◌, true, cond, ⊎_elim, map, get_or, is_some, Some, None, Option, nat_lt, refl, sym, ap, subst, ◌∙◌, arith}
-use Rattle.std.proofs.lemmas.Bool.{and_parts, both_ways, cases_lt, cond-true, cond-false, lt-ltb, le-ltb, ltb-true}
+use Rattle.std.proofs.Common.{◌≡◌, ℕ, ◌+◌, ◌-◌, ◌<◌, ◌≤◌, true, cond, ⊎_elim, map, get_or, is_some}
+use Rattle.std.proofs.Common.{Some, None, Option, nat_lt, refl, sym, ap, subst, ◌∙◌, arith}
+use Rattle.std.proofs.lemmas.Bool.{and_parts, both_ways, cases_lt, cond-true, cond-false, lt-ltb}
+use Rattle.std.proofs.lemmas.Bool.{le-ltb, ltb-true}
 use Rattle.std.proofs.lemmas.Bool.{eqb-true, not-false, false_from_ne_true}
 use Rattle.protocol.specs.Limits.{line_limit}
 use Rattle.choice.specs.Rule.{choice_of}
@@ -8,9 +10,11 @@ use Rattle.book.specs.Lemmas.Counting.{placed_lines}
 use Rattle.book.specs.Meaning.{is_reserved, reserved_count}
 use Rattle.book.specs.Entries.{entry_stores}
 use Rattle.std.specs.Option.{option_or}
-use Rattle.condensed.specs.Condensed.{Condensed, IsSound, condensed, empty_slot, slot_entry, slot_key, slot_of}
+use Rattle.condensed.specs.Condensed.{Condensed, IsSound, condensed, empty_slot, slot_entry}
+use Rattle.condensed.specs.Condensed.{slot_key, slot_of}
 use Rattle.condensed.specs.Condensed.{slot_for, line_entry, entry_from}
-use Rattle.condensed.specs.Lemmas.SoundLines.{chosen_slot_is_free, reserved_line_has_slot, line_at, line_entry-in_range}
+use Rattle.condensed.specs.Lemmas.SoundLines.{chosen_slot_is_free, reserved_line_has_slot, line_at}
+use Rattle.condensed.specs.Lemmas.SoundLines.{line_entry-in_range}
 use Rattle.condensed.specs.FullBook.{NoSlotForASeventeenth}
 use Rattle.condensed.specs.Lemmas.Slots.{IsSlotOf, slot_of_law}
 

@@ -1,14 +1,17 @@
 -- A new condensed book has no stamp and no reservation, and a slot for every line.
-use Rattle.std.proofs.Common.{◌≡◌, ℕ, ◌<◌, true, ltb, List, get_or, replicate, is_some, Some, None, Option, refl, ap, ◌∙◌}
+use Rattle.std.proofs.Common.{◌≡◌, ℕ, ◌<◌, true, ltb, List, get_or, replicate, is_some, Some, None}
+use Rattle.std.proofs.Common.{Option, refl, ap, ◌∙◌}
 use Rattle.std.proofs.lemmas.Bool.{and_from, lt-ltb}
 use Rattle.protocol.specs.Limits.{line_limit}
 use Rattle.book.specs.Meaning.{IsNew}
-use Rattle.book.specs.Entries.{untouched_entry, no_stamps, free_entry, earlier_stamps, entry_stores, entry_owner}
+use Rattle.book.specs.Entries.{untouched_entry, no_stamps, free_entry, earlier_stamps, entry_stores}
+use Rattle.book.specs.Entries.{entry_owner}
 use Rattle.book.specs.declared.entry.Stamps.{Stamps}
 use Rattle.book.specs.Lemmas.ListSet.{slice_index_or-replicate}
 use Rattle.condensed.specs.Filter.{indices_of, filter_stamps}
 use Rattle.std.specs.Option.{option_or}
-use Rattle.condensed.specs.Condensed.{condensed, condensed_new, empty_slot, slot_holds, slot_of, line_entry}
+use Rattle.condensed.specs.Condensed.{condensed, condensed_new, empty_slot, slot_holds, slot_of}
+use Rattle.condensed.specs.Condensed.{line_entry}
 use Rattle.condensed.specs.Condensed.{entry_from}
 use Rattle.condensed.specs.Lemmas.Slots.{slot_of-none}
 use Rattle.condensed.specs.Lemmas.CondensedKeeps.{new_stamps}

@@ -1,12 +1,15 @@
 -- The condensed book: sixteen slots, a filter for all other lines, and the latest stamp.
-use Rattle.std.specs.Prelude.{◌≡◌, ℕ, ◌+◌, ◌<◌, ◌≤◌, max, Bool, true, false, cond, ◌&&◌, List, map, length, get_or, replicate, is_some, Some, None, Option, ◌==◌, nat_lt, slice_index_or, slice_set}
+use Rattle.std.specs.Prelude.{◌≡◌, ℕ, ◌+◌, ◌<◌, ◌≤◌, max, Bool, true, false, cond, ◌&&◌, List, map}
+use Rattle.std.specs.Prelude.{length, get_or, replicate, is_some, Some, None, Option, ◌==◌, nat_lt}
+use Rattle.std.specs.Prelude.{slice_index_or, slice_set}
 use Rattle.std.specs.List.{list_any, position}
 use Rattle.std.specs.Option.{option_map, option_map_or, option_or}
 use Rattle.protocol.specs.Limits.{line_limit}
 use Rattle.choice.specs.Rule.{choice_of}
 use Rattle.book.specs.Time.{Time}
 use Rattle.book.specs.Meaning.{Kind}
-use Rattle.book.specs.Entries.{untouched_entry, no_stamps, free_entry, read_stamps, entry_after_read, entry_after_reserve, entry_after_add}
+use Rattle.book.specs.Entries.{untouched_entry, no_stamps, free_entry, read_stamps}
+use Rattle.book.specs.Entries.{entry_after_read, entry_after_reserve, entry_after_add}
 use Rattle.book.specs.Entries.{entry_after_release, entry_stores, entry_owner}
 use Rattle.condensed.specs.Filter.{FourWays, indices_of, filter_stamps, filter_raised_to, stamps_at}
 use Rattle.book.specs.declared.entry.Entry.{Entry}
@@ -60,8 +63,8 @@ slot_holds slot line = is_line (slot_line slot) line
 unfoldable pub slot_of : List Slot → ℕ → Option ℕ
 slot_of slots line = position (λ slot. slot_holds slot line) slots
 
--- A slot's key, for the choice of a free slot: its line's write stamp, or 0 if it is empty. A reserved slot is not
--- allowed.
+-- A slot's key, for the choice of a free slot: its line's write stamp, or 0 if it is empty. A
+-- reserved slot is not allowed.
 abbrev pub occupant_key : Option Occupant → Option ℕ
 occupant_key None = Some 0
 occupant_key (Some there) = cond (entry_stores there.entry == 0) (Some there.entry.stamps.write) None
@@ -73,7 +76,8 @@ slot_key slot = occupant_key slot.occupant
 abbrev pub any_free : List Slot → Bool
 any_free slots = list_any (λ slot. is_some (slot_key slot)) slots
 
--- The slot for a line that is to be reserved: the one that it is in, or else the one that is chosen.
+-- The slot for a line that is to be reserved: the one that it is in, or else the one that is
+-- chosen.
 abbrev pub slot_or_choice : List Slot → Option ℕ → Option ℕ
 slot_or_choice slots inside = option_or inside (choice_of (map slot_key slots))
 
@@ -85,7 +89,8 @@ abbrev pub entry_from : List Slot → List (List Stamps) → ℕ → Option ℕ 
 entry_from slots filter line None = free_entry (filter_stamps filter (indices_of line))
 entry_from slots filter line (Some place) = slot_entry (get_or slots place empty_slot)
 
--- A line takes a slot: another line that was in it is evicted, and raises its entries of the filter to its stamps.
+-- A line takes a slot: another line that was in it is evicted, and raises its entries of the filter
+-- to its stamps.
 abbrev pub filter_raised_for : List (List Stamps) → Stamps → ℕ → Option ℕ → List (List Stamps)
 filter_raised_for filter stamps line None = filter
 filter_raised_for filter stamps line (Some evicted) =
@@ -95,7 +100,8 @@ abbrev pub filter_after_eviction : List (List Stamps) → Slot → ℕ → List 
 filter_after_eviction filter slot line = filter_raised_for filter (slot_entry slot).stamps line (slot_line slot)
 
 module _ (s : Condensed) where
-  -- The entry of a line, by the slot that it is in. A line past the last is as one that no call has named.
+  -- The entry of a line, by the slot that it is in. A line past the last is as one that no call has
+  -- named.
   abbrev pub entry_by_slot : ℕ → Option ℕ → Entry
   entry_by_slot line inside = cond (nat_lt line line_limit) (entry_from s.slots s.filter line inside) untouched_entry
 

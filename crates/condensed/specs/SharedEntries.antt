@@ -13,7 +13,8 @@ four_reads = Note 70 (9, 1) ∷ Note 125 (7, 2) ∷ Note 81 (8, 0) ∷ Note 122 
 abbrev pub after_four : Condensed × Exact
 after_four = both_after_calls condensed (condensed_new, exact_new) four_reads
 
--- In the exact book line 5 was never read. In the condensed book it has the earliest of the four marks.
+-- In the exact book line 5 was never read. In the condensed book it has the earliest of the four
+-- marks.
 pub record SharedMark : Type 0 where
   pub exactly : exact.read_mark after_four.1 5 ≡ (0, 0)
   pub condensed_to : condensed.read_mark after_four.0 5 ≡ (7, 1)

@@ -5,8 +5,10 @@ ghost use Rattle.protocol.specs.Limits.{line_limit};
 ghost use Rattle.book.specs.Meaning.{IsNew};
 ghost use Rattle.book.specs.Earliest.{IsEarliest};
 ghost use Rattle.book.specs.Exact.{FitsWithin};
-ghost use Rattle.condensed.specs.Condensed.{IsSound, IsBounded, condensed, condensed_of, condensed_new};
-ghost use Rattle.condensed.specs.Condensed.{slot_of, slot_or_choice, slot_for, entry_by_slot, line_entry};
+ghost use Rattle.condensed.specs.Condensed.{IsSound, IsBounded, condensed, condensed_of};
+ghost use Rattle.condensed.specs.Condensed.{condensed_new};
+ghost use Rattle.condensed.specs.Condensed.{slot_of, slot_or_choice, slot_for, entry_by_slot};
+ghost use Rattle.condensed.specs.Condensed.{line_entry};
 ghost use Rattle.condensed.specs.Condensed.{after_eviction, with_slot, after_note};
 
 use crate::filter::{Filter, indices};
@@ -29,8 +31,8 @@ impl CondensedBook {
     ghost use Rattle.condensed.specs.FullBook.{NoSlotForASeventeenth};
     ghost use Rattle.condensed.specs.SharedEntries.{SharedMark};
 
-    /// A book with no stamps and no reservations. Whatever calls it gets, none of its stamps is earlier than the exact
-    /// book's.
+    /// A book with no stamps and no reservations. Whatever calls it gets, none of its stamps is
+    /// earlier than the exact book's.
     pub fn new() -> CondensedBook
         ensures value { condensed_state result ≡ condensed_new }
         ensures new { IsNew condensed (condensed_state result) }
@@ -98,7 +100,8 @@ impl CondensedBook {
         self.entry_by_slot(line, self.slot_of(line))
     }
 
-    /// Writes a line and its entry into the slot for it, and raises the latest stamp if it is earlier.
+    /// Writes a line and its entry into the slot for it, and raises the latest stamp if it is
+    /// earlier.
     fn fill_slot(&mut self, line: u32, slot: SlotIndex, entry: Entry, stamp: u32)
         requires its_slot { slot_for self.old.slots line ≡ Some slot.index }
         requires in_range { line < line_limit }

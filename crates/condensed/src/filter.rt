@@ -90,8 +90,8 @@ impl Filter {
         self.raise_at(3, d, stamps);
     }
 
-    /// Keeps the stamps of the line in a slot before `line` takes the slot. An empty slot, or one that `line` is in
-    /// already, changes nothing.
+    /// Keeps the stamps of the line in a slot before `line` takes the slot. An empty slot, or one
+    /// that `line` is in already, changes nothing.
     pub(crate) fn evict(&mut self, slot: Slot, line: u32)
         ensures { self.new ≡ filter_after_eviction self.old slot line }
     {

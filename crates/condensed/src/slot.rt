@@ -53,7 +53,8 @@ impl Slot {
     }
 }
 
-/// The key of a free slot is its line's write stamp, or 0 if it is empty. A reserved slot is not allowed.
+/// The key of a free slot is its line's write stamp, or 0 if it is empty. A reserved slot is not
+/// allowed.
 impl Ranked for Slot {
     ghost key = { slot_key };
 

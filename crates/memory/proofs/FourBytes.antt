@@ -1,5 +1,7 @@
 -- Writing the four bytes of a value at a line sets that line alone.
-use Rattle.std.proofs.Common.{◌≡◌, ℕ, ◌+◌, ◌*◌, ◌/◌, ◌%◌, ◌^◌, ◌<◌, Bool, true, false, eqb, ltb, ◌≢◌, List, [], ◌∷◌, length, get_or, set, refl, ◌∙◌, add-zero, arith, length-set, get_or-set_other, get_or-set_same, drop-set-lt}
+use Rattle.std.proofs.Common.{◌≡◌, ℕ, ◌+◌, ◌*◌, ◌/◌, ◌%◌, ◌^◌, ◌<◌, Bool, true, false, eqb, ltb}
+use Rattle.std.proofs.Common.{◌≢◌, List, [], ◌∷◌, length, get_or, set, refl, ◌∙◌, add-zero, arith}
+use Rattle.std.proofs.Common.{length-set, get_or-set_other, get_or-set_same, drop-set-lt}
 use mathlib.Core.Path.{fun_ext}
 use native.Mathlib.Nat.{div-div-eq-div-mul}
 use Rattle.std.proofs.lemmas.Bool.{eqb-true, eqb-false, eq-eqb, lt-ltb}

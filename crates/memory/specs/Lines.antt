@@ -1,5 +1,6 @@
 -- The lines of a memory, and the effect of reads and writes.
-use Rattle.std.specs.Prelude.{ℕ, ◌+◌, ◌-◌, ◌*◌, ◌/◌, ◌%◌, cond, List, length, drop, Some, None, Ok, Err, Option, Result, ◌==◌, nat_lt, slice_index}
+use Rattle.std.specs.Prelude.{ℕ, ◌+◌, ◌-◌, ◌*◌, ◌/◌, ◌%◌, cond, List, length, drop, Some, None, Ok}
+use Rattle.std.specs.Prelude.{Err, Option, Result, ◌==◌, nat_lt, slice_index}
 use Rattle.std.specs.Option.{option_map}
 use Rattle.protocol.specs.Faults.{fault_in_call}
 use Rattle.protocol.specs.declared.fault.Fault.{Fault}
@@ -40,6 +41,7 @@ byte_lines bytes n = cond (nat_lt n (length bytes / 4)) (Some (little_endian byt
 abbrev pub odd_bytes : List ℕ → List ℕ
 odd_bytes bytes = drop (4 * (length bytes / 4)) bytes
 
--- Two memories joined: even line n is line n / 2 of the first, odd line n is line (n - 1) / 2 of the second.
+-- Two memories joined: even line n is line n / 2 of the first, odd line n is line (n - 1) / 2 of
+-- the second.
 abbrev pub split_lines : Lines → Lines → Lines
 split_lines first second n = cond (n % 2 == 0) (first (n / 2)) (second ((n - 1) / 2))

@@ -5,7 +5,8 @@ ghost use Rattle.memory.specs.Lines.{byte_lines, odd_bytes};
 use crate::memory::{Memory, no_such_line};
 use protocol::Fault;
 
-/// The caller's bytes, four to a line, least significant first. Up to three bytes left over at the end are in no line.
+/// The caller's bytes, four to a line, least significant first. Up to three bytes left over at the
+/// end are in no line.
 #[derive(Drop)]
 pub struct ByteMemory<'a> {
     pub bytes: &'a mut [u8],

@@ -10,8 +10,8 @@ pub trait Memory {
     // The lines that it has, and the value of each.
     ghost at: { Self → Lines };
 
-    // The slices that it borrows, by their names in proofs. They show the lender what a slice holds when the memory is
-    // dropped.
+    // The slices that it borrows, by their names in proofs. They show the lender what a slice holds
+    // when the memory is dropped.
     ghost lent: { Self → List ℕ };
 
     // The bytes that it borrows besides its lines.
@@ -21,7 +21,8 @@ pub trait Memory {
     fn read(&self, line: u32) -> Result<u32, Fault>
         ensures { result ≡ ok_or (at self.now line) (no_line line) };
 
-    /// Sets the value of one line. Only a line that the memory does not have is refused, and then nothing changes.
+    /// Sets the value of one line. Only a line that the memory does not have is refused, and then
+    /// nothing changes.
     fn write(&mut self, line: u32, value: u32) -> Result<(), Fault>
         ensures answer { result ≡ write_result (at self.old line) (no_line line) }
         ensures after { at self.new ≡ lines_with (at self.old) line value }

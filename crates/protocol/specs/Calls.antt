@@ -21,7 +21,8 @@ abbrev pub named_in : ℕ → List Op → Option Op
 named_in letter [] = None
 named_in letter (op ∷ rest) = cond (letter == op_letter op) (Some op) (named_in letter rest)
 
--- The operation that a letter stands for. Only loads use the line, and only stores use the line and the value.
+-- The operation that a letter stands for. Only loads use the line, and only stores use the line and
+-- the value.
 abbrev pub op_named : ℕ → ℕ → ℕ → Option Op
 op_named letter line value = named_in letter (ops_at line value)
 

@@ -4,9 +4,12 @@ use Rattle.protocol.specs.declared.fault.Fault.{Fault}
 use Rattle.protocol.specs.declared.fault.Layer.{Layer}
 use Rattle.protocol.specs.declared.fault.Layer.TheVariants.{Memory, File, Machine}
 use Rattle.protocol.specs.declared.fault.Refusal.{Refusal}
-use Rattle.protocol.specs.declared.fault.Refusal.TheVariants.{NoSuchWarp, WarpIdle, WarpNotIdle, OutcomePending}
-use Rattle.protocol.specs.declared.fault.Refusal.TheVariants.{NothingToFetch, NoSuchLine, LogFull, ClockSpent}
-use Rattle.protocol.specs.declared.fault.Refusal.TheVariants.{BadSize, BadStamp, BadMark, BadVersion, CutShort}
+use Rattle.protocol.specs.declared.fault.Refusal.TheVariants.{NoSuchWarp, WarpIdle, WarpNotIdle}
+use Rattle.protocol.specs.declared.fault.Refusal.TheVariants.{OutcomePending}
+use Rattle.protocol.specs.declared.fault.Refusal.TheVariants.{NothingToFetch, NoSuchLine, LogFull}
+use Rattle.protocol.specs.declared.fault.Refusal.TheVariants.{ClockSpent}
+use Rattle.protocol.specs.declared.fault.Refusal.TheVariants.{BadSize, BadStamp, BadMark}
+use Rattle.protocol.specs.declared.fault.Refusal.TheVariants.{BadVersion, CutShort}
 use Rattle.protocol.specs.declared.fault.Refusal.TheVariants.{BadLetter, TooManyRows}
 
 -- The number that listings print for a refusal.

@@ -19,7 +19,8 @@ pub enum Op {
     Fetch,
 }
 
-/// One call: the warp that makes it, and the operation. The machine refuses a warp or a line that it does not have.
+/// One call: the warp that makes it, and the operation. The machine refuses a warp or a line that
+/// it does not have.
 #[derive(Clone, Copy, PartialEq, Eq, Debug)]
 pub struct Call {
     pub warp: u32,
@@ -42,7 +43,8 @@ impl Op {
     }
 
     // The form is fixed (docs/DECISIONS.md): a match on char literals.
-    /// The operation that a letter stands for. Only loads use the line, and only stores use the line and the value.
+    /// The operation that a letter stands for. Only loads use the line, and only stores use the
+    /// line and the value.
     pub fn named(letter: char, line: u32, value: u32) -> Option<Op>
         ensures answer { result ≡ op_named letter line value }
         ensures back { LettersNameBack }

@@ -1,11 +1,13 @@
 //! Refusals: why, which layer refuses, and the offending number.
 ghost use Rattle.std.specs.Prelude.{◌≡◌, Some};
 ghost use Rattle.protocol.specs.Answers.{refusal_text};
-ghost use Rattle.protocol.specs.Faults.{refusal_number, NumbersDiffer, call_layer, fault_in_call, fault_in_file, fault_with_number};
+ghost use Rattle.protocol.specs.Faults.{refusal_number, NumbersDiffer, call_layer, fault_in_call};
+ghost use Rattle.protocol.specs.Faults.{fault_in_file, fault_with_number};
 
 use std::fmt;
 
-/// Why a call is refused or a calls file is rejected, in the order of the numbers that listings print.
+/// Why a call is refused or a calls file is rejected, in the order of the numbers that listings
+/// print.
 #[derive(Clone, Copy, PartialEq, Eq, Debug)]
 pub enum Refusal {
     /// The machine has no such warp.
@@ -48,8 +50,8 @@ pub enum Layer {
     Machine,
 }
 
-/// A refusal: why, which layer refuses, and the offending number, which is a warp, a line, a stamp, a count or a byte's
-/// position in a file.
+/// A refusal: why, which layer refuses, and the offending number, which is a warp, a line, a stamp,
+/// a count or a byte's position in a file.
 #[derive(Clone, Copy, PartialEq, Eq, Debug)]
 pub struct Fault {
     pub refusal: Refusal,
@@ -66,7 +68,8 @@ impl Refusal {
         self as u8
     }
 
-    /// The layer that refuses a call: the memory if it does not have the line, and else the machine.
+    /// The layer that refuses a call: the memory if it does not have the line, and else the
+    /// machine.
     fn call_layer(self) -> Layer
         ensures { result ≡ call_layer self }
     {

@@ -1,5 +1,7 @@
 -- The exact book keeps the laws of a book.
-use Rattle.std.specs.Prelude.{◌≡◌, ℕ, zero, suc, ◌+◌, ◌<◌, ◌≤◌, max, Bool, true, false, not, ◌&&◌, length, replicate, Some, None, Option, ◌==◌, ◌≢◌, nat_lt, slice_index_or, slice_set}
+use Rattle.std.specs.Prelude.{◌≡◌, ℕ, zero, suc, ◌+◌, ◌<◌, ◌≤◌, max, Bool, true, false, not, ◌&&◌}
+use Rattle.std.specs.Prelude.{length, replicate, Some, None, Option, ◌==◌, ◌≢◌, nat_lt}
+use Rattle.std.specs.Prelude.{slice_index_or, slice_set}
 use Rattle.std.proofs.Common.{⊎_elim, sym, ◌∙◌, length-set, get_or-set_same, get_or-set_other}
 use Rattle.std.proofs.Math.Path.{refl, ap, subst}
 use native.Mathlib.Omega.{arith}
@@ -8,15 +10,20 @@ use Rattle.std.proofs.lemmas.Bool.{lt-ltb, ltb-true, and_parts}
 use Rattle.protocol.specs.Limits.{line_limit}
 use Rattle.book.specs.Time.{Time, earlier}
 use Rattle.book.specs.Lemmas.Counting.{counted_most}
-use Rattle.book.specs.Meaning.{Keeps, IsNew, IsSoundLine, is_reserved, Notes, Reserves, Adds, Releases, StampsGrow, KeepsReservation}
-use Rattle.book.specs.Entries.{untouched_entry, read_stamps, write_stamps, entry_after_read, entry_after_reserve, entry_after_add, entry_after_release}
+use Rattle.book.specs.Meaning.{Keeps, IsNew, IsSoundLine, is_reserved, Notes, Reserves, Adds}
+use Rattle.book.specs.Meaning.{Releases, StampsGrow, KeepsReservation}
+use Rattle.book.specs.Entries.{untouched_entry, read_stamps, write_stamps, entry_after_read}
+use Rattle.book.specs.Entries.{entry_after_reserve, entry_after_add, entry_after_release}
 use Rattle.book.specs.Entries.{entry_stores, entry_owner, warp_or_first}
 use Rattle.book.specs.Exact.{Exact, exact, exact_new, entry_at, with_entry, FitsWithin}
 use Rattle.book.specs.declared.entry.Entry.{Entry}
-use Rattle.book.specs.Lemmas.Times.{NoEarlier, no_earlier_than_itself, later_stamps_first, later_stamps_second, later_of_bound}
-use Rattle.book.specs.Lemmas.Holds.{positive_unless_zero, hold_stores-hold_of, reserved_has_owner, free_has_no_owner}
+use Rattle.book.specs.Lemmas.Times.{NoEarlier, no_earlier_than_itself, later_stamps_first}
+use Rattle.book.specs.Lemmas.Times.{later_stamps_second, later_of_bound}
+use Rattle.book.specs.Lemmas.Holds.{positive_unless_zero, hold_stores-hold_of, reserved_has_owner}
+use Rattle.book.specs.Lemmas.Holds.{free_has_no_owner}
 use Rattle.book.specs.Lemmas.Holds.{entry_owner-after_add}
-use Rattle.book.specs.Lemmas.ListSet.{slice_index_or-replicate, holds_after_set, holds_after_set_by_place}
+use Rattle.book.specs.Lemmas.ListSet.{slice_index_or-replicate, holds_after_set}
+use Rattle.book.specs.Lemmas.ListSet.{holds_after_set_by_place}
 
 module _ (s : Exact) (good : exact.Good s) where
   exact_lines_are_sound : (line : ℕ) → line < line_limit → IsSoundLine exact s line

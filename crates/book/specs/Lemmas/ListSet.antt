@@ -1,9 +1,11 @@
 -- The elements of a list after one is set, and of a list of copies.
-use Rattle.std.specs.Prelude.{◌≡◌, ℕ, zero, suc, ◌<◌, List, [], ◌∷◌, length, replicate, ◌≢◌, slice_index_or, slice_set}
+use Rattle.std.specs.Prelude.{◌≡◌, ℕ, zero, suc, ◌<◌, List, [], ◌∷◌, length, replicate, ◌≢◌}
+use Rattle.std.specs.Prelude.{slice_index_or, slice_set}
 use Rattle.std.proofs.Common.{⊎_elim, refl, subst, sym, get_or-set_same, get_or-set_other}
 use Rattle.std.proofs.lemmas.Bool.{cases_eq}
 
--- A fact of the element that is set and of the element that was at a place holds of the element there afterwards.
+-- A fact of the element that is set and of the element that was at a place holds of the element
+-- there afterwards.
 pub holds_after_set :
     {X : Type 0} (P : X → Type 0) (xs : List X) (i n : ℕ) (x d : X) → P x → P (slice_index_or xs n d)
     → P (slice_index_or (slice_set xs i x) n d)

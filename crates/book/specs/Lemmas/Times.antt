@@ -66,7 +66,8 @@ pub earlier_stamps_grow : (a b c d : Stamps) → NoEarlier a c → NoEarlier b d
 earlier_stamps_grow a b c d p q =
     (omega arith, earlier_of_grows a.read b.read c.read d.read p.1 q.1)
 
--- No time is earlier than the first one. A time not earlier than two others is not earlier than the later of them.
+-- No time is earlier than the first one. A time not earlier than two others is not earlier than the
+-- later of them.
 pub not_earlier_than_zero : (a : Time) → earlier a (0, 0) ≡ false
 not_earlier_than_zero a = grind (arith, nat_tests)
 

@@ -1,24 +1,31 @@
 -- What each change of the condensed book does to each line, and that the book stays sound.
-use Rattle.std.specs.Prelude.{◌≡◌, ℕ, ◌<◌, ◌≤◌, true, false, List, length, get_or, Some, None, Option, ◌==◌, ◌≢◌, slice_index_or, slice_set}
+use Rattle.std.specs.Prelude.{◌≡◌, ℕ, ◌<◌, ◌≤◌, true, false, List, length, get_or, Some, None}
+use Rattle.std.specs.Prelude.{Option, ◌==◌, ◌≢◌, slice_index_or, slice_set}
 use Rattle.std.proofs.Common.{⊎_elim, ◌∙◌, arith, length-set, get_or-set_same, get_or-set_other}
 use Rattle.std.proofs.Math.Path.{refl, sym, ap, subst}
-use Rattle.std.proofs.lemmas.Bool.{false_from_ne_true, cases_eq, cond-false, cond_both, eqb-true, ne_eqb, eq-eqb}
+use Rattle.std.proofs.lemmas.Bool.{false_from_ne_true, cases_eq, cond-false, cond_both, eqb-true}
+use Rattle.std.proofs.lemmas.Bool.{ne_eqb, eq-eqb}
 use Rattle.std.proofs.lemmas.Bool.{both_ways}
 use Rattle.protocol.specs.Limits.{line_limit}
 use Rattle.book.specs.Entries.{free_entry, entry_stores, entry_owner}
 use Rattle.book.specs.Lemmas.Holds.{hold_owner-free}
 use Rattle.book.specs.Exact.{FitsWithin}
 use Rattle.condensed.specs.Filter.{FourWays, indices_of, stamps_at, filter_stamps, filter_raised_to}
-use Rattle.condensed.specs.Condensed.{Condensed, IsSound, empty_slot, is_line, same_line, slot_holds, slot_of, entry_from, line_entry}
-use Rattle.condensed.specs.Condensed.{slot_holding, slot_line, slot_entry, slots_with, filter_after_eviction, filter_raised_for, HoldDistinctLines, HoldNumberedLines}
+use Rattle.condensed.specs.Condensed.{Condensed, IsSound, empty_slot, is_line, same_line}
+use Rattle.condensed.specs.Condensed.{slot_holds, slot_of, entry_from, line_entry}
+use Rattle.condensed.specs.Condensed.{slot_holding, slot_line, slot_entry, slots_with}
+use Rattle.condensed.specs.Condensed.{filter_after_eviction, filter_raised_for, HoldDistinctLines}
+use Rattle.condensed.specs.Condensed.{HoldNumberedLines}
 use Rattle.book.specs.declared.entry.Entry.{Entry}
 use Rattle.book.specs.declared.entry.Stamps.{Stamps}
 use Rattle.condensed.specs.declared.slot.Slot.{Slot}
 use Rattle.book.specs.Lemmas.Times.{NoEarlier, no_earlier_than_itself, later_of_bound}
 use Rattle.book.specs.Lemmas.ListSet.{holds_after_set, holds_after_set_by_place}
 use Rattle.condensed.specs.Lemmas.Indices.{indices_inside}
-use Rattle.condensed.specs.Lemmas.Filters.{Grown, raised_grows, raised_each, raised_ways, raised_reaches, filter_stamps_grow}
-use Rattle.condensed.specs.Lemmas.Slots.{IsSlotOf, slot_of_law, slot_of-held, slot_of-none, is_line_is_some, same_from, same_back, slot_of-same_line}
+use Rattle.condensed.specs.Lemmas.Filters.{Grown, raised_grows, raised_each, raised_ways}
+use Rattle.condensed.specs.Lemmas.Filters.{raised_reaches, filter_stamps_grow}
+use Rattle.condensed.specs.Lemmas.Slots.{IsSlotOf, slot_of_law, slot_of-held, slot_of-none}
+use Rattle.condensed.specs.Lemmas.Slots.{is_line_is_some, same_from, same_back, slot_of-same_line}
 use Rattle.condensed.specs.Lemmas.Slots.{slot_line-set}
 use Rattle.condensed.specs.Lemmas.SoundLines.{line_entry-in_range}
 
@@ -39,7 +46,8 @@ kept_if_same a b e =
 pub kept_free : (a b : Stamps) → NoEarlier a b → IsKept (free_entry a) (free_entry b)
 kept_free a b up = record { up = up; same_stores = refl; same_owner = refl }
 
--- The entry of an evicted line, which no store holds, against the stamps that the filter has for it.
+-- The entry of an evicted line, which no store holds, against the stamps that the filter has for
+-- it.
 kept_after_eviction : (a : Entry) (b : Stamps) → entry_stores a ≡ 0 → NoEarlier a.stamps b → IsKept a (free_entry b)
 kept_after_eviction a b none up =
     record {

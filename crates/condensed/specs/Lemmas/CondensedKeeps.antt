@@ -1,37 +1,52 @@
 -- The condensed book keeps the laws of a book.
-use Rattle.std.specs.Prelude.{◌≡◌, ℕ, zero, suc, ◌+◌, ◌<◌, ◌≤◌, max, true, false, List, [], map, length, get_or, replicate, is_some, Some, None, Option, ◌==◌, ◌≢◌, nat_lt, slice_index_or}
+use Rattle.std.specs.Prelude.{◌≡◌, ℕ, zero, suc, ◌+◌, ◌<◌, ◌≤◌, max, true, false, List, [], map}
+use Rattle.std.specs.Prelude.{length, get_or, replicate, is_some, Some, None, Option, ◌==◌, ◌≢◌}
+use Rattle.std.specs.Prelude.{nat_lt, slice_index_or}
 use Rattle.std.proofs.Common.{⊎_elim, sym, ap, ◌∙◌, arith}
 use Rattle.std.proofs.Math.Path.{refl, subst}
 use Rattle.std.proofs.lemmas.Bool.{cases_eq, cond-true, eq-eqb, ltb-true, and_parts, both_ways}
 use Rattle.protocol.specs.Limits.{line_limit}
 use Rattle.choice.specs.Rule.{choice_of}
 use Rattle.book.specs.Time.{Time, earlier}
-use Rattle.book.specs.Meaning.{Keeps, StampsGrow, KeepsReservation, Notes, Reserves, Adds, Releases, can_note}
-use Rattle.book.specs.Entries.{no_stamps, read_stamps, write_stamps, entry_after_read, entry_after_reserve, entry_after_add}
-use Rattle.book.specs.Entries.{entry_after_release, free_entry, entry_stores, entry_owner, warp_or_first}
+use Rattle.book.specs.Meaning.{Keeps, StampsGrow, KeepsReservation, Notes, Reserves, Adds, Releases}
+use Rattle.book.specs.Meaning.{can_note}
+use Rattle.book.specs.Entries.{no_stamps, read_stamps, write_stamps, entry_after_read}
+use Rattle.book.specs.Entries.{entry_after_reserve, entry_after_add}
+use Rattle.book.specs.Entries.{entry_after_release, free_entry, entry_stores, entry_owner}
+use Rattle.book.specs.Entries.{warp_or_first}
 use Rattle.book.specs.Exact.{FitsWithin}
 use Rattle.condensed.specs.Filter.{indices_of, stamps_at, filter_stamps, filter_raised_to}
 use Rattle.std.specs.Option.{option_or}
-use Rattle.condensed.specs.Condensed.{Condensed, IsSound, condensed, condensed_new, empty_slot, same_line, slot_holding, slot_line}
+use Rattle.condensed.specs.Condensed.{Condensed, IsSound, condensed, condensed_new, empty_slot}
+use Rattle.condensed.specs.Condensed.{same_line, slot_holding, slot_line}
 use Rattle.condensed.specs.Condensed.{slot_entry, slot_holds}
-use Rattle.condensed.specs.Condensed.{slot_of, slot_key, slot_for, entry_from, line_entry, slots_with, after_eviction}
-use Rattle.condensed.specs.Condensed.{filter_after_eviction, filter_raised_for, after_note, after_reserve, after_change}
+use Rattle.condensed.specs.Condensed.{slot_of, slot_key, slot_for, entry_from, line_entry}
+use Rattle.condensed.specs.Condensed.{slots_with, after_eviction}
+use Rattle.condensed.specs.Condensed.{filter_after_eviction, filter_raised_for, after_note}
+use Rattle.condensed.specs.Condensed.{after_reserve, after_change}
 use Rattle.book.specs.declared.entry.Entry.{Entry}
 use Rattle.book.specs.declared.entry.Stamps.{Stamps}
-use Rattle.book.specs.Lemmas.Times.{NoEarlier, no_earlier_than_itself, later_stamps_first, later_stamps_second, later_of_bound}
-use Rattle.book.specs.Lemmas.Holds.{positive_unless_zero, hold_stores-hold_of, entry_owner-after_add}
+use Rattle.book.specs.Lemmas.Times.{NoEarlier, no_earlier_than_itself, later_stamps_first}
+use Rattle.book.specs.Lemmas.Times.{later_stamps_second, later_of_bound}
+use Rattle.book.specs.Lemmas.Holds.{positive_unless_zero, hold_stores-hold_of}
+use Rattle.book.specs.Lemmas.Holds.{entry_owner-after_add}
 use Rattle.book.specs.Lemmas.ListSet.{slice_index_or-replicate}
 use Rattle.book.specs.Lemmas.ExactKeeps.{line_in_range}
 use Rattle.condensed.specs.Lemmas.Indices.{indices_inside}
 use Rattle.condensed.specs.Lemmas.Filters.{raised_grows, raised_reaches}
 use Rattle.condensed.specs.Lemmas.Slots.{IsSlotOf, slot_of_law, is_line_is_some}
-use Rattle.condensed.specs.Lemmas.SoundLines.{line_entry-in_range, chosen_slot_is_free, condensed_lines_are_sound, reserved_within_slots}
-use Rattle.condensed.specs.Lemmas.Changes.{IsKept, kept_if_same, filter_is_within, within_raised, sound_with_filter, kept_with_filter}
-use Rattle.condensed.specs.Lemmas.Changes.{changed_here, changed_apart, sound_changed, sound_with, within_later}
-use Rattle.condensed.specs.Lemmas.Changes.{eviction_is_within, moved_apart, moved_numbered, moved_to, moved_here, moved_kept}
+use Rattle.condensed.specs.Lemmas.SoundLines.{line_entry-in_range, chosen_slot_is_free}
+use Rattle.condensed.specs.Lemmas.SoundLines.{condensed_lines_are_sound, reserved_within_slots}
+use Rattle.condensed.specs.Lemmas.Changes.{IsKept, kept_if_same, filter_is_within, within_raised}
+use Rattle.condensed.specs.Lemmas.Changes.{sound_with_filter, kept_with_filter}
+use Rattle.condensed.specs.Lemmas.Changes.{changed_here, changed_apart, sound_changed, sound_with}
+use Rattle.condensed.specs.Lemmas.Changes.{within_later}
+use Rattle.condensed.specs.Lemmas.Changes.{eviction_is_within, moved_apart, moved_numbered}
+use Rattle.condensed.specs.Lemmas.Changes.{moved_to, moved_here, moved_kept}
 use Rattle.condensed.specs.Lemmas.Changes.{sound_moved}
 
--- If every other line is kept and the stamps of the line get no earlier, no stamp of the book gets earlier.
+-- If every other line is kept and the stamps of the line get no earlier, no stamp of the book gets
+-- earlier.
 module _ (s s' : Condensed) (line : ℕ) (others : (n : ℕ) → n < line_limit → (n ≢ line)
     → IsKept (line_entry s n) (line_entry s' n)) where
   grows_by : NoEarlier (line_entry s line).stamps (line_entry s' line).stamps → StampsGrow condensed s s'

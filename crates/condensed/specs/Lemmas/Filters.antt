@@ -1,12 +1,16 @@
--- Raising entries of the filter makes no stamp earlier, and raises the stamps of the line as far as wanted.
-use Rattle.std.specs.Prelude.{◌≡◌, ℕ, zero, suc, ◌<◌, ◌≤◌, List, [], ◌∷◌, length, slice_index, slice_index_or, slice_set}
+-- Raising entries of the filter makes no stamp earlier, and raises the stamps of the line as far as
+-- wanted.
+use Rattle.std.specs.Prelude.{◌≡◌, ℕ, zero, suc, ◌<◌, ◌≤◌, List, [], ◌∷◌, length, slice_index}
+use Rattle.std.specs.Prelude.{slice_index_or, slice_set}
 use Rattle.std.proofs.Common.{sym, subst, ◌∙◌, get_or-set_same}
 use native.Mathlib.Omega.{arith}
 use Rattle.std.proofs.Math.ListN.{length-set}
 use Rattle.book.specs.Entries.{no_stamps, later_stamps, earlier_stamps}
-use Rattle.condensed.specs.Filter.{FourWays, AreInside, way_at, stamps_at, raised_at, filter_stamps, filter_raised_to}
+use Rattle.condensed.specs.Filter.{FourWays, AreInside, way_at, stamps_at, raised_at, filter_stamps}
+use Rattle.condensed.specs.Filter.{filter_raised_to}
 use Rattle.book.specs.declared.entry.Stamps.{Stamps}
-use Rattle.book.specs.Lemmas.Times.{NoEarlier, no_earlier_than_itself, no_earlier_chain, later_stamps_first, later_stamps_second, earlier_stamps_reach}
+use Rattle.book.specs.Lemmas.Times.{NoEarlier, no_earlier_than_itself, no_earlier_chain}
+use Rattle.book.specs.Lemmas.Times.{later_stamps_first, later_stamps_second, earlier_stamps_reach}
 use Rattle.book.specs.Lemmas.Times.{earlier_stamps_grow, earlier_of_bound}
 use Rattle.book.specs.Lemmas.ListSet.{holds_after_set}
 

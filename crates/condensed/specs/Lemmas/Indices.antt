@@ -1,11 +1,13 @@
 -- A line's indices, bit by bit, and that each is within its way.
-use Rattle.std.specs.Prelude.{◌≡◌, ℕ, ◌+◌, ◌/◌, ◌%◌, ◌^◌, ◌<◌, ◌≤◌, Bool, true, false, cond, List, [], ◌∷◌, length, drop, ◌==◌, bit_xor, nat_lt, slice_index, refl}
+use Rattle.std.specs.Prelude.{◌≡◌, ℕ, ◌+◌, ◌/◌, ◌%◌, ◌^◌, ◌<◌, ◌≤◌, Bool, true, false, cond, List}
+use Rattle.std.specs.Prelude.{[], ◌∷◌, length, drop, ◌==◌, bit_xor, nat_lt, slice_index, refl}
 use Rattle.std.proofs.Common.{sym, ap, ◌∙◌, arith}
 use Rattle.std.specs.Int.Bits.{xor_zero_r, xor_assoc}
 use Rattle.std.proofs.lemmas.Nat.{xor_lt, shr-shr}
 use Rattle.std.proofs.lemmas.List.{drop_more, drop_all}
 use Rattle.std.proofs.lemmas.Bool.{cond_both, ltb-true, and_parts}
-use Rattle.condensed.specs.Filter.{index_by, all_below_64, indices_of, AreInside, way_0, way_1, way_2, way_3}
+use Rattle.condensed.specs.Filter.{index_by, all_below_64, indices_of, AreInside, way_0, way_1}
+use Rattle.condensed.specs.Filter.{way_2, way_3}
 
 -- One bit further: its number counts if the bit is set.
 pub index_more :

@@ -1,12 +1,16 @@
 -- The slot that a line is in, and what the change of one slot keeps.
-use Rattle.std.specs.Prelude.{◌≡◌, ℕ, zero, suc, ◌<◌, Bool, true, false, cond, List, [], ◌∷◌, length, get_or, Some, None, Option, slice_index_or, slice_set, nat_lt, refl}
+use Rattle.std.specs.Prelude.{◌≡◌, ℕ, zero, suc, ◌<◌, Bool, true, false, cond, List, [], ◌∷◌}
+use Rattle.std.specs.Prelude.{length, get_or, Some, None, Option, slice_index_or, slice_set, nat_lt}
+use Rattle.std.specs.Prelude.{refl}
 use Rattle.std.proofs.Common.{⊎_elim, sym, ap, subst, ◌∙◌, arith, length-set}
-use Rattle.std.proofs.lemmas.Bool.{cond-true, eqb-true, eq-eqb, lt-ltb, ltb-true, ltb-false, cases_lt, both_ways}
+use Rattle.std.proofs.lemmas.Bool.{cond-true, eqb-true, eq-eqb, lt-ltb, ltb-true, ltb-false}
+use Rattle.std.proofs.lemmas.Bool.{cases_lt, both_ways}
 use Rattle.std.specs.List.{position_or_len}
 use Rattle.std.proofs.lemmas.List.Sums.{passes_at_first, fails_before_first, position_or_len_is}
 use Rattle.std.proofs.lemmas.List.Folds.{position_or_len-set}
 use Rattle.std.proofs.lemmas.List.{get_or_past}
-use Rattle.condensed.specs.Condensed.{empty_slot, is_line, same_line, slot_line, slot_holds, slot_of, HoldDistinctLines}
+use Rattle.condensed.specs.Condensed.{empty_slot, is_line, same_line, slot_line, slot_holds}
+use Rattle.condensed.specs.Condensed.{slot_of, HoldDistinctLines}
 use Rattle.condensed.specs.declared.slot.Slot.{Slot}
 
 pub is_line_is_some : (o : Option ℕ) (n : ℕ) → is_line o n ≡ true → o ≡ Some n

@@ -1,10 +1,13 @@
--- Each line of the condensed book is sound, and has a slot while fewer than sixteen lines are reserved.
-use Rattle.std.specs.Prelude.{◌≡◌, ℕ, ◌<◌, ◌≤◌, true, false, List, map, length, get_or, is_some, Some, None, Option, nat_eq, nat_lt, slice_index_or}
+-- Each line of the condensed book is sound, and has a slot while fewer than sixteen lines are
+-- reserved.
+use Rattle.std.specs.Prelude.{◌≡◌, ℕ, ◌<◌, ◌≤◌, true, false, List, map, length, get_or, is_some}
+use Rattle.std.specs.Prelude.{Some, None, Option, nat_eq, nat_lt, slice_index_or}
 use Rattle.std.proofs.Math.Path.{refl}
 use Rattle.std.proofs.Common.{sym, ap, subst, ◌∙◌, arith}
 use Rattle.std.proofs.lemmas.List.{get_or-map, length-map}
 use Rattle.std.proofs.lemmas.Bool.Decides.{nat_tests}
-use Rattle.std.proofs.lemmas.Bool.{cond-true, ne_eqb, eq-eqb, lt-ltb, and_from, both_ways, not_from_false}
+use Rattle.std.proofs.lemmas.Bool.{cond-true, ne_eqb, eq-eqb, lt-ltb, and_from, both_ways}
+use Rattle.std.proofs.lemmas.Bool.{not_from_false}
 use Rattle.protocol.specs.Limits.{line_limit}
 use Rattle.choice.specs.Rule.{IsChoice, FirstSmallest, choice_of}
 use Rattle.choice.proofs.ChoiceLaw.{choice_law, within}
@@ -12,7 +15,8 @@ use Rattle.book.specs.Meaning.{IsSoundLine, is_reserved, reserved_count}
 use Rattle.book.specs.Entries.{untouched_entry, entry_stores}
 use Rattle.condensed.specs.Filter.{indices_of}
 use Rattle.std.specs.Option.{option_or}
-use Rattle.condensed.specs.Condensed.{Condensed, IsSound, condensed, empty_slot, is_line, occupant_line, occupant_entry, slot_line, slot_entry}
+use Rattle.condensed.specs.Condensed.{Condensed, IsSound, condensed, empty_slot, is_line}
+use Rattle.condensed.specs.Condensed.{occupant_line, occupant_entry, slot_line, slot_entry}
 use Rattle.condensed.specs.Condensed.{slot_holds, slot_of, slot_key, occupant_key}
 use Rattle.condensed.specs.Condensed.{slot_for, entry_from, line_entry}
 use Rattle.book.specs.declared.entry.Entry.{Entry}
@@ -20,7 +24,8 @@ use Rattle.condensed.specs.declared.slot.Occupant.{Occupant}
 use Rattle.condensed.specs.declared.slot.Slot.{Slot}
 use Rattle.book.specs.Lemmas.Holds.{reserved_has_owner, free_has_no_owner, positive_unless_zero}
 use Rattle.condensed.specs.Lemmas.Filters.{filter_stamps_write_bound, filter_stamps_read_bound}
-use Rattle.condensed.specs.Lemmas.Slots.{IsSlotOf, slot_of_law, is_line_is_some, slot_of-held, same_from}
+use Rattle.condensed.specs.Lemmas.Slots.{IsSlotOf, slot_of_law, is_line_is_some, slot_of-held}
+use Rattle.condensed.specs.Lemmas.Slots.{same_from}
 use Rattle.book.specs.Lemmas.Counting.{different_lines, placed_lines}
 
 -- The entry of a line below the limit is that of its slot, or has the stamps of the filter.

@@ -1,7 +1,8 @@
 -- The book is sound after the filter is raised to the stamps of an evicted line.
 use Rattle.std.proofs.Common.{◌<◌, length, sym, ap, subst, ◌∙◌, arith}
 use Rattle.std.proofs.lemmas.List.{get_or_default}
-use Rattle.condensed.specs.Condensed.{Condensed, IsSound, empty_slot, condensed_of, filter_after_eviction}
+use Rattle.condensed.specs.Condensed.{Condensed, IsSound, empty_slot, condensed_of}
+use Rattle.condensed.specs.Condensed.{filter_after_eviction}
 use Rattle.condensed.specs.CondensedState.{condensed_state}
 use Rattle.condensed.specs.Lemmas.CondensedKeeps.{sound_after_eviction}
 use Rattle.condensed.proofs.condensed_book.CondensedBook.evict.Goals as goal

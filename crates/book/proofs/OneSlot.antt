@@ -1,17 +1,17 @@
 -- The exact book reserves two lines at once, so it has more slots than one.
 use Rattle.std.proofs.Common.{◌≡◌, ℕ, zero, suc, ◌<◌, ◌≤◌, true, not, ◌==◌, refl, ap, ◌∙◌, arith}
 use Rattle.protocol.specs.Limits.{line_limit}
-use Rattle.book.specs.Counting.{different_lines}
+use Rattle.book.specs.Lemmas.Counting.{different_lines}
 use Rattle.book.specs.Meaning.{Reserves, is_reserved, reserved_count}
 use Rattle.book.specs.Exact.{Exact, exact, exact_new}
-use Rattle.book.specs.ExactKeeps.{exact_keeps, good_new}
-use Rattle.book.specs.Slots.{OneSlotIsTooFew}
+use Rattle.book.specs.Lemmas.ExactKeeps.{exact_keeps, exact_new_is_sound}
+use Rattle.book.specs.OneSlot.{OneSlotIsTooFew}
 
 abbrev one : Exact
 one = exact.reserve exact_new 0 (0, 0)
 
 first : exact.Good one × Reserves exact exact_new one 0 (0, 0)
-first = exact_keeps.reserves exact_new good_new 0 (0, 0) refl
+first = exact_keeps.reserves exact_new exact_new_is_sound 0 (0, 0) refl
 
 abbrev two : Exact
 two = exact.reserve one 1 (0, 0)

@@ -1,4 +1,4 @@
--- What a book keeps of a line, and what the calls make of it.
+-- What a book keeps of a line, and what each call does to it.
 use Rattle.std.specs.Prelude.{ℕ, zero, suc, ◌+◌, min, max, cond, Some, None, Option}
 use Rattle.std.proofs.Math.Nat.{zero-lt-suc}
 use Rattle.book.specs.Time.{Time, earlier}
@@ -6,39 +6,39 @@ use Rattle.book.specs.declared.entry.Stamps.{Stamps}
 use Rattle.book.specs.declared.entry.Hold.{Hold}
 use Rattle.book.specs.declared.entry.Entry.{Entry}
 
--- The later and the earlier of two times; of equals the first.
+-- The later and the earlier of two times. Of equals it is the first.
 abbrev pub later_of : Time → Time → Time
 later_of a b = cond (earlier a b) b a
 
 abbrev pub earlier_of : Time → Time → Time
 earlier_of a b = cond (earlier b a) b a
 
--- Two stamps of a line put together: the later of each, the earlier of each.
+-- The later and the earlier of each of two stamps.
 abbrev pub later_stamps : Stamps → Stamps → Stamps
 later_stamps a b = record { write = max a.write b.write; read = later_of a.read b.read }
 
 abbrev pub earlier_stamps : Stamps → Stamps → Stamps
 earlier_stamps a b = record { write = min a.write b.write; read = earlier_of a.read b.read }
 
--- What a read leaves behind, and what a write does.
+-- The stamps that a read sets, and those that a write sets.
 abbrev pub read_stamps : Time → Stamps
 read_stamps t = record { write = 0; read = t }
 
 abbrev pub write_stamps : ℕ → Stamps
 write_stamps stamp = record { write = stamp; read = (0, 0) }
 
--- A line that no call named yet.
+-- A line that no call has named.
 abbrev pub no_stamps : Stamps
 no_stamps = record { write = 0; read = (0, 0) }
 
 abbrev pub untouched_entry : Entry
 untouched_entry = record { stamps = no_stamps; hold = None }
 
--- A line that is told by its stamps alone: no store holds it.
+-- A line that no store holds.
 abbrev pub free_entry : Stamps → Entry
 free_entry stamps = record { stamps = stamps; hold = None }
 
--- How many stores hold a line, and for whom: only a line that stores hold has an owner.
+-- The number of stores that hold a line, and their warp, which owns the line.
 abbrev pub hold_stores : Option Hold → ℕ
 hold_stores None = 0
 hold_stores (Some hold) = hold.stores
@@ -53,7 +53,7 @@ entry_stores e = hold_stores e.hold
 abbrev pub entry_owner : Entry → Option ℕ
 entry_owner e = hold_owner e.hold
 
--- So many stores of a warp, or no hold where there are none.
+-- A number of stores made by a warp. No store makes no hold.
 abbrev pub hold_of : ℕ → ℕ → Option Hold
 hold_of warp zero = None
 hold_of warp (suc n) = Some (record { warp = warp; stores = suc n; some = zero-lt-suc n })
@@ -62,15 +62,17 @@ abbrev pub warp_or_first : Option ℕ → ℕ
 warp_or_first None = 0
 warp_or_first (Some warp) = warp
 
--- A line that a warp reserves up to a stamp; a line with another number of stores.
+-- A line that a warp reserves, its write stamp raised to a stamp; a line with another number of
+-- stores.
 abbrev pub reserved_entry : Entry → ℕ → ℕ → Entry
 reserved_entry e warp stamp = record { stamps = later_stamps e.stamps (write_stamps stamp); hold = hold_of warp 1 }
 
 abbrev pub entry_with_stores : Entry → ℕ → Entry
 entry_with_stores e stores = record { stamps = e.stamps; hold = hold_of (warp_or_first (entry_owner e)) stores }
 
--- What a call makes of the line: it is read; it is reserved, by the time's warp, and whoever is not later than the time
--- comes too late; it gets one store more; it is released, and keeps its stamps.
+-- A line after each call. A read raises its read mark. A reservation gives it to the time's warp,
+-- and a transaction whose stamp is not later comes too late from then on. An add counts one more
+-- store. A release keeps the stamps.
 abbrev pub entry_after_read : Entry → Time → Entry
 entry_after_read e t = record { stamps = later_stamps e.stamps (read_stamps t); hold = e.hold }
 

@@ -1,11 +1,13 @@
 -- The exact book: an entry for each line, and the latest stamp.
-use Rattle.std.specs.Prelude.{◌≡◌, ℕ, ◌+◌, ◌<◌, ◌≤◌, max, List, length, get_or, replicate, nat_lt, slice_index_or, slice_set}
+use Rattle.std.specs.Prelude.{◌≡◌, ℕ, ◌+◌, ◌<◌, ◌≤◌, max, List, length, get_or, replicate, nat_lt}
+use Rattle.std.specs.Prelude.{slice_index_or, slice_set}
 use Rattle.protocol.specs.Limits.{line_limit}
 use Rattle.book.specs.Meaning.{Kind}
-use Rattle.book.specs.Entries.{untouched_entry, entry_after_read, entry_after_reserve, entry_after_add, entry_after_release, entry_stores, entry_owner}
+use Rattle.book.specs.Entries.{untouched_entry, entry_after_read, entry_after_reserve}
+use Rattle.book.specs.Entries.{entry_after_add, entry_after_release, entry_stores, entry_owner}
 use Rattle.book.specs.declared.entry.Entry.{Entry}
 
--- What the book has: an entry for each line, line 0 first, and the latest stamp.
+-- The state of the book: an entry for each line, line 0 first, and the latest stamp.
 pub record Exact : Type 0 where
   pub entries : List Entry
   pub latest : ℕ
@@ -13,18 +15,18 @@ pub record Exact : Type 0 where
 abbrev pub exact_of : List Entry → ℕ → Exact
 exact_of entries latest = record { entries = entries; latest = latest }
 
--- The tables that come up: an entry for each line,
+-- A sound state has an entry for each line,
 abbrev pub HasAllLines : List Entry → Type 0
 HasAllLines entries = length entries ≡ line_limit
 
--- nothing in them later than the latest stamp,
+-- no write stamp and no read mark later than the latest stamp,
 abbrev pub AreWrittenBy : List Entry → ℕ → Type 0
 AreWrittenBy entries latest = (n : ℕ) → (get_or entries n untouched_entry).stamps.write ≤ latest
 
 abbrev pub AreReadBy : List Entry → ℕ → Type 0
 AreReadBy entries latest = (n : ℕ) → (get_or entries n untouched_entry).stamps.read.0 ≤ latest
 
--- and a write stamp for every line that stores hold.
+-- and a write stamp above 0 for every line that stores hold.
 abbrev pub HeldAreStamped : List Entry → Type 0
 HeldAreStamped entries =
     (n : ℕ) → 0 < entry_stores (get_or entries n untouched_entry) → 0 < (get_or entries n untouched_entry).stamps.write
@@ -36,21 +38,21 @@ pub record IsSound (s : Exact) : Type 0 where
   pub read : AreReadBy s.entries s.latest
   pub stamped : HeldAreStamped s.entries
 
--- An entry fits into such a table with a latest stamp.
+-- An entry that a sound state with this latest stamp may have.
 abbrev pub FitsWithin : ℕ → Entry → Type 0
 FitsWithin latest e =
     (e.stamps.write ≤ latest) × (e.stamps.read.0 ≤ latest) × (0 < entry_stores e → 0 < e.stamps.write)
 
 module _ (s : Exact) where
-  -- What is told of a line. A line without a number is told as one that no call named yet.
+  -- The entry of a line. A line past the last is as one that no call has named.
   abbrev pub entry_at : ℕ → Entry
   entry_at line = slice_index_or s.entries line untouched_entry
 
-  -- A call sets the entry of its line, and raises the latest stamp where it is earlier.
+  -- A call sets the entry of its line, and raises the latest stamp if it is earlier.
   abbrev pub with_entry : ℕ → Entry → ℕ → Exact
   with_entry line e stamp = record { entries = slice_set s.entries line e; latest = max s.latest stamp }
 
--- The exact book has a slot for each line, and each call sets the least that it must.
+-- The exact book has a slot for each line, and each call changes the entry of its line alone.
 abbrev pub exact : Kind
 exact =
     record {
@@ -69,6 +71,6 @@ exact =
       release = λ s line. with_entry s line (entry_after_release (entry_at s line)) 0;
     }
 
--- A new book: no line was called yet.
+-- A new book: no call has named a line.
 abbrev pub exact_new : Exact
 exact_new = record { entries = replicate line_limit untouched_entry; latest = 0 }

@@ -1,4 +1,4 @@
--- Which line a call of a book is about, and how the call prints.
+-- The line that a call of a book is about, and the text of the call.
 use Rattle.std.specs.Prelude.{ℕ, List, ◌++◌, codes}
 use Rattle.std.specs.Fmt.{decimal}
 use Rattle.book.specs.Time.{Time}

@@ -1,4 +1,4 @@
-//! The calls of a book as values, and how two books get the same ones.
+//! The calls of a book as values, and two books that get the same calls.
 ghost use Rattle.std.specs.Prelude.{◌≡◌, Some};
 ghost use Rattle.book.specs.Grants.{grant_result};
 ghost use Rattle.book.specs.Earliest.{is_granted, state_after_call, both_after_call, IsEarliest};
@@ -6,7 +6,7 @@ ghost use Rattle.book.specs.ExactState.{exact_state};
 ghost use Rattle.book.specs.Printed.{call_line, call_text};
 
 use crate::book::Book;
-use crate::exact::ExactBook;
+use crate::exact_book::ExactBook;
 use crate::refused::Refused;
 use std::fmt;
 
@@ -46,7 +46,7 @@ impl fmt::Display for BookCall {
     }
 }
 
-/// Makes a call of a book.
+/// Makes a call of a book. A refused call changes nothing.
 pub fn make<B: Book>(book: &mut B, call: BookCall) -> Result<(), Refused>
     ensures answer { result ≡ grant_result (is_granted B.kind (B.model book.old) call) }
     ensures after { B.model book.new
@@ -60,8 +60,9 @@ pub fn make<B: Book>(book: &mut B, call: BookCall) -> Result<(), Refused>
     }
 }
 
-/// Makes a call of a book and, if it is granted, of the exact book too. In every run of such calls, from two new books
-/// on, the exact book grants whatever the other does, tells no later stamp of any line, and has no later latest stamp.
+/// Makes a call of a book and, if it is granted, of the exact book too. In every run of such calls
+/// from two new books, the exact book grants each call that the other grants, and none of its
+/// stamps, marks or latest stamps is later.
 #[tactic(auto, using(crate::proofs::Earliest::made_of_both))]
 pub fn make_both<B: Book>(
     book: &mut B,

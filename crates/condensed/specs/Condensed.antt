@@ -1,11 +1,15 @@
 -- The condensed book: sixteen slots, a filter for all other lines, and the latest stamp.
-use Rattle.std.specs.Prelude.{◌≡◌, ℕ, ◌+◌, ◌<◌, ◌≤◌, max, Bool, true, false, cond, ◌&&◌, List, map, length, get_or, replicate, is_some, Some, None, Option, ◌==◌, nat_lt, slice_index_or, slice_set}
+use Rattle.std.specs.Prelude.{◌≡◌, ℕ, ◌+◌, ◌<◌, ◌≤◌, max, Bool, true, false, cond, ◌&&◌, List, map}
+use Rattle.std.specs.Prelude.{length, get_or, replicate, is_some, Some, None, Option, ◌==◌, nat_lt}
+use Rattle.std.specs.Prelude.{slice_index_or, slice_set}
 use Rattle.std.specs.List.{list_any, position}
+use Rattle.std.specs.Option.{option_map, option_map_or, option_or}
 use Rattle.protocol.specs.Limits.{line_limit}
 use Rattle.choice.specs.Rule.{choice_of}
 use Rattle.book.specs.Time.{Time}
 use Rattle.book.specs.Meaning.{Kind}
-use Rattle.book.specs.Entries.{untouched_entry, no_stamps, free_entry, read_stamps, entry_after_read, entry_after_reserve, entry_after_add}
+use Rattle.book.specs.Entries.{untouched_entry, no_stamps, free_entry, read_stamps}
+use Rattle.book.specs.Entries.{entry_after_read, entry_after_reserve, entry_after_add}
 use Rattle.book.specs.Entries.{entry_after_release, entry_stores, entry_owner}
 use Rattle.condensed.specs.Filter.{FourWays, indices_of, filter_stamps, filter_raised_to, stamps_at}
 use Rattle.book.specs.declared.entry.Entry.{Entry}
@@ -13,7 +17,7 @@ use Rattle.book.specs.declared.entry.Stamps.{Stamps}
 use Rattle.condensed.specs.declared.slot.Occupant.{Occupant}
 use Rattle.condensed.specs.declared.slot.Slot.{Slot}
 
--- What the book has: its slots, the filter's four ways, and the latest stamp.
+-- The state of the book: its slots, the four ways of the filter, and the latest stamp.
 pub record Condensed : Type 0 where
   pub slots : List Slot
   pub filter : List (List Stamps)
@@ -26,11 +30,11 @@ condensed_of slots filter latest = record { slots = slots; filter = filter; late
 abbrev pub empty_slot : Slot
 empty_slot = record { occupant = None }
 
--- A slot that holds a line, and what is told of it there.
+-- A slot that holds a line with its entry.
 abbrev pub slot_holding : ℕ → Entry → Slot
 slot_holding line e = record { occupant = Some (record { line = line; entry = e }) }
 
--- Whether a slot's line, if it has one, is a given line, or that of another slot.
+-- Whether the line of a slot, if it has one, is a given line, or the line of another slot.
 abbrev pub is_line : Option ℕ → ℕ → Bool
 is_line None line = false
 is_line (Some held) line = held == line
@@ -39,14 +43,12 @@ abbrev pub same_line : Option ℕ → Option ℕ → Bool
 same_line None other = false
 same_line (Some line) other = is_line other line
 
--- The line in a slot, and what is told of it; in a slot that holds no line, as of one that no call named yet.
+-- The line in a slot, and its entry. An empty slot has the entry of a line that no call has named.
 abbrev pub occupant_line : Option Occupant → Option ℕ
-occupant_line None = None
-occupant_line (Some there) = Some there.line
+occupant_line = option_map (λ occupant. occupant.line)
 
 abbrev pub occupant_entry : Option Occupant → Entry
-occupant_entry None = untouched_entry
-occupant_entry (Some there) = there.entry
+occupant_entry occupant = option_map_or (λ there. there.entry) occupant untouched_entry
 
 abbrev pub slot_line : Slot → Option ℕ
 slot_line slot = occupant_line slot.occupant
@@ -61,8 +63,8 @@ slot_holds slot line = is_line (slot_line slot) line
 unfoldable pub slot_of : List Slot → ℕ → Option ℕ
 slot_of slots line = position (λ slot. slot_holds slot line) slots
 
--- A slot's key, for the choice of a slot to take: its write stamp, or 0 where it is empty. A reserved slot is not
--- allowed.
+-- A slot's key, for the choice of a free slot: its line's write stamp, or 0 if it is empty. A
+-- reserved slot is not allowed.
 abbrev pub occupant_key : Option Occupant → Option ℕ
 occupant_key None = Some 0
 occupant_key (Some there) = cond (entry_stores there.entry == 0) (Some there.entry.stamps.write) None
@@ -70,43 +72,43 @@ occupant_key (Some there) = cond (entry_stores there.entry == 0) (Some there.ent
 abbrev pub slot_key : Slot → Option ℕ
 slot_key slot = occupant_key slot.occupant
 
--- One of the slots may be taken.
+-- One of the slots is free.
 abbrev pub any_free : List Slot → Bool
 any_free slots = list_any (λ slot. is_some (slot_key slot)) slots
 
--- Where a line goes that is to be reserved: the slot that it is in, or else the one that is chosen.
-abbrev pub or_else : Option ℕ → Option ℕ → Option ℕ
-or_else None other = other
-or_else (Some place) other = Some place
+-- The slot for a line that is to be reserved: the one that it is in, or else the one that is
+-- chosen.
+abbrev pub slot_or_choice : List Slot → Option ℕ → Option ℕ
+slot_or_choice slots inside = option_or inside (choice_of (map slot_key slots))
 
-abbrev pub place_from : List Slot → Option ℕ → Option ℕ
-place_from slots inside = or_else inside (choice_of (map slot_key slots))
+abbrev pub slot_for : List Slot → ℕ → Option ℕ
+slot_for slots line = option_or (slot_of slots line) (choice_of (map slot_key slots))
 
-abbrev pub place_for : List Slot → ℕ → Option ℕ
-place_for slots line = or_else (slot_of slots line) (choice_of (map slot_key slots))
-
--- A line in a slot is told from the slot, any other from the filter.
+-- The entry of a line is that of its slot. A line in no slot has the stamps of the filter.
 abbrev pub entry_from : List Slot → List (List Stamps) → ℕ → Option ℕ → Entry
 entry_from slots filter line None = free_entry (filter_stamps filter (indices_of line))
-entry_from slots filter line (Some place) = (slot_entry (get_or slots place empty_slot))
+entry_from slots filter line (Some place) = slot_entry (get_or slots place empty_slot)
 
--- A slot is left to a line: another line that was in it raises its entries of the filter to its stamps.
+-- A line takes a slot: another line that was in it is evicted, and raises its entries of the filter
+-- to its stamps.
 abbrev pub filter_raised_for : List (List Stamps) → Stamps → ℕ → Option ℕ → List (List Stamps)
 filter_raised_for filter stamps line None = filter
-filter_raised_for filter stamps line (Some out) = cond (out == line) filter (filter_raised_to filter (indices_of out) stamps)
+filter_raised_for filter stamps line (Some evicted) =
+    cond (evicted == line) filter (filter_raised_to filter (indices_of evicted) stamps)
 
 abbrev pub filter_after_eviction : List (List Stamps) → Slot → ℕ → List (List Stamps)
 filter_after_eviction filter slot line = filter_raised_for filter (slot_entry slot).stamps line (slot_line slot)
 
 module _ (s : Condensed) where
-  -- What is told of a line, by the slot that it is in. A line without a number is told as one that no call named yet.
+  -- The entry of a line, by the slot that it is in. A line past the last is as one that no call has
+  -- named.
   abbrev pub entry_by_slot : ℕ → Option ℕ → Entry
   entry_by_slot line inside = cond (nat_lt line line_limit) (entry_from s.slots s.filter line inside) untouched_entry
 
   abbrev pub line_entry : ℕ → Entry
   line_entry line = entry_by_slot line (slot_of s.slots line)
 
-  -- A slot is left to a line.
+  -- The state after the line of a slot is evicted for another.
   abbrev pub after_eviction : ℕ → ℕ → Condensed
   after_eviction line place =
       record {
@@ -115,7 +117,7 @@ module _ (s : Condensed) where
         latest = s.latest;
       }
 
-  -- A line and its entry are written into a slot, and the latest stamp is raised where it is earlier.
+  -- A line and its entry are written into a slot, and the latest stamp is raised if it is earlier.
   abbrev pub slots_with : ℕ → ℕ → Entry → List Slot
   slots_with line place e = slice_set s.slots place (slot_holding line e)
 
@@ -136,34 +138,40 @@ module _ (s : Condensed) (line : ℕ) where
         filter = filter_raised_to s.filter (indices_of line) (read_stamps t);
         latest = max s.latest t.0;
       }
-  after_note t (Some place) = with_slot s line place (entry_after_read (slot_entry (get_or s.slots place empty_slot)) t) t.0
+  after_note t (Some place) =
+      with_slot s line place (entry_after_read (slot_entry (get_or s.slots place empty_slot)) t) t.0
 
-  -- A reserved line starts in its slot from what was told of it before the call.
+  -- A reserved line starts in its slot from its entry before the call.
   abbrev pub after_reserve : Time → Option ℕ → Condensed
   after_reserve t None = s
-  after_reserve t (Some place) = with_slot (after_eviction s line place) line place (entry_after_reserve (line_entry s line) t) (t.0 + 1)
+  after_reserve t (Some place) =
+      with_slot (after_eviction s line place) line place (entry_after_reserve (line_entry s line) t) (t.0 + 1)
 
   -- Other calls change the entry of the line in its slot, and nothing else.
   abbrev pub after_change : (Entry → Entry) → Option ℕ → Condensed
   after_change change None = s
-  after_change change (Some place) = with_slot s line place (change (slot_entry (get_or s.slots place empty_slot))) 0
+  after_change change (Some place) =
+      with_slot s line place (change (slot_entry (get_or s.slots place empty_slot))) 0
 
--- Neither stamp is past another.
+-- Neither stamp is later than a given one.
 abbrev pub IsBounded : Stamps → ℕ → Type 0
 IsBounded stamps latest = (stamps.write ≤ latest) × (stamps.read.0 ≤ latest)
 
--- The books that come up: sixteen slots and four times 64 entries;
-abbrev pub AreSixteen : List Slot → Type 0
-AreSixteen slots = length slots ≡ 16
+-- A sound state has sixteen slots and four ways of 64 entries;
+abbrev pub HasSixteenSlots : List Slot → Type 0
+HasSixteenSlots slots = length slots ≡ 16
 
--- no line in two slots, and only lines that have a number;
+-- no line is in two slots, and each line in a slot is below the limit;
 abbrev pub HoldDistinctLines : List Slot → Type 0
-HoldDistinctLines slots = (i j : ℕ) → same_line (slot_line (get_or slots i empty_slot)) (slot_line (get_or slots j empty_slot)) ≡ true → i ≡ j
+HoldDistinctLines slots =
+    (i j : ℕ)
+    → same_line (slot_line (get_or slots i empty_slot)) (slot_line (get_or slots j empty_slot)) ≡ true
+    → i ≡ j
 
 abbrev pub HoldNumberedLines : List Slot → Type 0
 HoldNumberedLines slots = (i n : ℕ) → slot_holds (slice_index_or slots i empty_slot) n ≡ true → n < line_limit
 
--- nothing in a slot or in the filter later than the latest stamp;
+-- no stamp in a slot or in the filter is later than the latest stamp;
 abbrev pub SlotsWritten : List Slot → ℕ → Type 0
 SlotsWritten slots latest = (i : ℕ) → (slot_entry (get_or slots i empty_slot)).stamps.write ≤ latest
 
@@ -176,14 +184,15 @@ FilterWritten filter latest = (way i : ℕ) → (stamps_at filter way i).write �
 abbrev pub FilterRead : List (List Stamps) → ℕ → Type 0
 FilterRead filter latest = (way i : ℕ) → (stamps_at filter way i).read.0 ≤ latest
 
--- a write stamp in every slot that stores hold.
+-- and every reserved slot has a write stamp above 0.
 abbrev pub SlotsStamped : List Slot → Type 0
 SlotsStamped slots =
-    (i : ℕ) → 0 < entry_stores (slot_entry (get_or slots i empty_slot)) → 0 < (slot_entry (get_or slots i empty_slot)).stamps.write
+    (i : ℕ) → 0 < entry_stores (slot_entry (get_or slots i empty_slot))
+    → 0 < (slot_entry (get_or slots i empty_slot)).stamps.write
 
 -- All of it together.
 pub record IsSound (s : Condensed) : Type 0 where
-  pub sixteen : AreSixteen s.slots
+  pub sixteen : HasSixteenSlots s.slots
   pub four_ways : FourWays s.filter
   pub apart : HoldDistinctLines s.slots
   pub numbered : HoldNumberedLines s.slots
@@ -193,7 +202,7 @@ pub record IsSound (s : Condensed) : Type 0 where
   pub filter_read : FilterRead s.filter s.latest
   pub slots_stamped : SlotsStamped s.slots
 
--- The condensed book, with its sixteen slots in every state.
+-- The condensed book, with sixteen slots.
 abbrev pub condensed : Kind
 condensed =
     record {
@@ -204,14 +213,14 @@ condensed =
       read_mark = λ s line. (line_entry s line).stamps.read;
       stores = λ s line. entry_stores (line_entry s line);
       owner = λ s line. entry_owner (line_entry s line);
-      has_slot = λ s line. nat_lt line line_limit && is_some (place_for s.slots line);
+      has_slot = λ s line. nat_lt line line_limit && is_some (slot_for s.slots line);
       latest = λ s. s.latest;
       note = λ s line t. after_note s line t (slot_of s.slots line);
-      reserve = λ s line t. after_reserve s line t (place_for s.slots line);
+      reserve = λ s line t. after_reserve s line t (slot_for s.slots line);
       add = λ s line. after_change s line entry_after_add (slot_of s.slots line);
       release = λ s line. after_change s line entry_after_release (slot_of s.slots line);
     }
 
--- A new book: no slot has a line, and no entry a stamp.
+-- A new book: its slots are empty, and no entry of the filter has a stamp.
 abbrev pub condensed_new : Condensed
 condensed_new = record { slots = replicate 16 empty_slot; filter = replicate 4 (replicate 64 no_stamps); latest = 0 }

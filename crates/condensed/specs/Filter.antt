@@ -1,14 +1,16 @@
--- The filter: stamps of many lines in few entries, four ways of 64.
-use Rattle.std.specs.Prelude.{◌≡◌, ℕ, Bool, true, ◌&&◌, nat_lt, ◌/◌, ◌%◌, ◌<◌, cond, List, [], ◌∷◌, length, get_or, ◌==◌, bit_xor, slice_index, slice_index_or, slice_set}
+-- The filter: the stamps of many lines in few entries, four ways of 64.
+use Rattle.std.specs.Prelude.{◌≡◌, ℕ, Bool, true, ◌&&◌, nat_lt, ◌/◌, ◌%◌, ◌<◌, cond, List, [], ◌∷◌}
+use Rattle.std.specs.Prelude.{length, get_or, ◌==◌, bit_xor, slice_index, slice_index_or, slice_set}
 use Rattle.book.specs.Entries.{no_stamps, later_stamps, earlier_stamps}
 use Rattle.book.specs.declared.entry.Stamps.{Stamps}
 
--- A line's index in a way: the exclusive or of the way's numbers for the bits set in the line's number, lowest first.
+-- A line's index in a way: the exclusive or of the way's numbers for the bits set in the line's
+-- number, lowest first.
 unfoldable pub index_by : List ℕ → ℕ → ℕ
 index_by [] line = 0
 index_by (number ∷ numbers) line = bit_xor (cond (line % 2 == 1) number 0) (index_by numbers (line / 2))
 
--- Numbers that are all within a way.
+-- Whether all numbers are indices of a way.
 abbrev pub all_below_64 : List ℕ → Bool
 all_below_64 [] = true
 all_below_64 (x ∷ xs) = nat_lt x 64 && all_below_64 xs
@@ -49,13 +51,13 @@ module _ (filter : List (List Stamps)) where
   abbrev pub stamps_at : ℕ → ℕ → Stamps
   stamps_at way index = slice_index_or (way_at way) index no_stamps
 
-  -- One entry is raised to stamps, where it is earlier.
+  -- One entry is raised to stamps if it is earlier.
   abbrev pub raised_at : ℕ → ℕ → Stamps → List (List Stamps)
   raised_at way index stamps =
       slice_set filter way (slice_set (way_at way) index (later_stamps (stamps_at way index) stamps))
 
--- Told of a line is the smallest write stamp and the earliest mark of its four entries; each of the two may come from
--- another entry.
+-- The stamps of a line are the smallest write stamp and the earliest read mark of its four entries.
+-- The two may come from different entries.
 unfoldable pub filter_stamps : List (List Stamps) → List ℕ → Stamps
 filter_stamps filter four =
     earlier_stamps

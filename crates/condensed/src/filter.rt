@@ -2,21 +2,33 @@
 ghost use Rattle.std.specs.Prelude.{◌≡◌, ◌<◌, true, [], ◌∷◌, replicate};
 ghost use Rattle.book.specs.Entries.{no_stamps};
 ghost use Rattle.condensed.specs.Condensed.{filter_after_eviction};
-ghost use Rattle.condensed.specs.Filter.{index_by, indices_of, all_below_64, FourWays, AreInside};
+ghost use Rattle.condensed.specs.Filter.{index_by, indices_of, all_below_64, AreInside};
 ghost use Rattle.condensed.specs.Filter.{filter_stamps, filter_raised_to, raised_at};
 
 use crate::slot::Slot;
 use book::Stamps;
+use std::marker::Model;
 
 /// Four ways of 64 entries. Each line has an entry in each way, and shares it with other lines.
 #[derive(Drop)]
 pub struct Filter {
-    pub(crate) ways: [[Stamps; 64]; 4],
-    ghost size: { FourWays ways },
+    ways: [[Stamps; 64]; 4],
 }
 
-/// The four entries of a line, as one index in each way.
-// A form that is fixed (docs/DECISIONS.md): one array by value.
+impl Model for Filter {
+    ghost use Rattle.std.specs.Prelude.{List};
+    ghost use Rattle.book.specs.declared.entry.Stamps.{Stamps};
+    ghost use Rattle.condensed.specs.Filter.{FourWays};
+
+    ghost Value = { List (List Stamps) };
+
+    ghost view = { λ filter. filter.ways };
+
+    ghost invariant = { λ filter. FourWays filter.ways };
+}
+
+/// The four entries of a line, as an index in each way.
+// The form is fixed (docs/DECISIONS.md): one array by value.
 pub fn indices(line: u32) -> [usize; 4]
     ensures value { result ≡ indices_of line }
     ensures inside { AreInside result }
@@ -45,9 +57,9 @@ fn index(numbers: &[usize; 12], line: u32) -> usize
 }
 
 impl Filter {
-    /// A filter that tells no stamp of any line.
+    /// A filter that has no stamp of any line.
     pub fn new() -> Filter
-        ensures { result.ways ≡ replicate 4 (replicate 64 no_stamps) }
+        ensures { result ≡ replicate 4 (replicate 64 no_stamps) }
     {
         let ways = [[Stamps::NONE; 64]; 4];
         Filter { ways }
@@ -57,7 +69,7 @@ impl Filter {
     #[tactic(auto, unfolding(crate::specs::Filter::filter_stamps))]
     pub(crate) fn stamps(&self, four: [usize; 4]) -> Stamps
         requires { AreInside four }
-        ensures { result ≡ filter_stamps self.now.ways four }
+        ensures { result ≡ filter_stamps self.now four }
     {
         let [a, b, c, d] = four;
         let low = self.ways[0][a].least(self.ways[1][b]);
@@ -65,11 +77,11 @@ impl Filter {
         low.least(high)
     }
 
-    /// Raises four entries to stamps, where they are earlier.
+    /// Raises each of four entries to `stamps` if it is earlier.
     #[tactic(auto, unfolding(crate::specs::Filter::filter_raised_to))]
     pub(crate) fn raise(&mut self, four: [usize; 4], stamps: Stamps)
         requires { AreInside four }
-        ensures { self.new.ways ≡ filter_raised_to self.old.ways four stamps }
+        ensures { self.new ≡ filter_raised_to self.old four stamps }
     {
         let [a, b, c, d] = four;
         self.raise_at(0, a, stamps);
@@ -78,22 +90,23 @@ impl Filter {
         self.raise_at(3, d, stamps);
     }
 
-    /// The line in a slot, if it is another than the one that comes in, raises its entries to its stamps.
-    pub(crate) fn turn_out(&mut self, slot: Slot, line: u32)
-        ensures { self.new.ways ≡ filter_after_eviction self.old.ways slot line }
+    /// Keeps the stamps of the line in a slot before `line` takes the slot. An empty slot, or one
+    /// that `line` is in already, changes nothing.
+    pub(crate) fn evict(&mut self, slot: Slot, line: u32)
+        ensures { self.new ≡ filter_after_eviction self.old slot line }
     {
-        if let Some(out) = slot.occupant
-            && out.line != line
+        if let Some(evicted) = slot.occupant
+            && evicted.line != line
         {
-            self.raise(indices(out.line), out.entry.stamps);
+            self.raise(indices(evicted.line), evicted.entry.stamps);
         }
     }
 
-    /// Raises one entry of a way to stamps, where it is earlier.
+    /// Raises one entry of a way to `stamps` if it is earlier.
     fn raise_at(&mut self, way: usize, index: usize, stamps: Stamps)
         requires way { way < 4 }
         requires index { index < 64 }
-        ensures { self.new.ways ≡ raised_at self.old.ways way index stamps }
+        ensures { self.new ≡ raised_at self.old way index stamps }
     {
         self.ways[way][index] = self.ways[way][index].raised(stamps);
     }

@@ -1,9 +1,8 @@
 //! The condensed book: a version book of few slots, and a filter for all other lines.
 #![tactic(auto)]
 
-mod calls;
+mod condensed_book;
 pub mod filter;
 pub mod slot;
-mod state;
 
-pub use state::CondensedBook;
+pub use condensed_book::CondensedBook;

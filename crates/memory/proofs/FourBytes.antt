@@ -1,5 +1,7 @@
--- Writing the four bytes of a number where a line lies sets that line alone.
-use Rattle.std.proofs.Common.{◌≡◌, ℕ, ◌+◌, ◌*◌, ◌/◌, ◌%◌, ◌^◌, ◌<◌, Bool, true, false, eqb, ltb, ◌≢◌, List, [], ◌∷◌, length, get_or, set, refl, ◌∙◌, add-zero, arith, length-set, get_or-set_other, get_or-set_same, drop-set-lt}
+-- Writing the four bytes of a value at a line sets that line alone.
+use Rattle.std.proofs.Common.{◌≡◌, ℕ, ◌+◌, ◌*◌, ◌/◌, ◌%◌, ◌^◌, ◌<◌, Bool, true, false, eqb, ltb}
+use Rattle.std.proofs.Common.{◌≢◌, List, [], ◌∷◌, length, get_or, set, refl, ◌∙◌, add-zero, arith}
+use Rattle.std.proofs.Common.{length-set, get_or-set_other, get_or-set_same, drop-set-lt}
 use mathlib.Core.Path.{fun_ext}
 use native.Mathlib.Nat.{div-div-eq-div-mul}
 use Rattle.std.proofs.lemmas.Bool.{eqb-true, eqb-false, eq-eqb, lt-ltb}
@@ -35,7 +37,7 @@ bytes_of v h =
     let third : v / 65536 ≡ v / 65536 % 256 + v / 16777216 * 256 = omega (arith, div-div-eq-div-mul v 65536 256) in
     rw top (four_digits v (v / 256) (v / 65536) (v / 16777216) _ _ _ (omega arith) next third)
 
--- The bytes of a value, written where a line lies.
+-- The bytes of a value, written at a line.
 abbrev pub line_set : List ℕ → ℕ → ℕ → List ℕ
 line_set bytes line v = four_set bytes (4 * line) (v % 256) (v / 256 % 256) (v / 65536 % 256) (v / 16777216 % 256)
 
@@ -70,7 +72,7 @@ module _ (bytes : List ℕ) (line value : ℕ) (h : line < length bytes / 4) (v 
       ≡ lines_with (byte_lines bytes) line value
   line_written four is = rw is (fun_ext (λ n. at_line n (eqb n line) refl))
 
--- The odd bytes at the end lie past every line.
+-- The bytes at the end that are in no line stay.
 pub odd_bytes_stay :
     (bytes : List ℕ) (line : ℕ) → line < length bytes / 4 → (a b c d : ℕ)
     → odd_bytes (four_set bytes (4 * line) a b c d) ≡ odd_bytes bytes

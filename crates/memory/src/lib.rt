@@ -1,4 +1,4 @@
-//! Memories: what they mean, and three kinds of them.
+//! Memories: their contract, and three kinds of them.
 #![tactic(auto)]
 
 mod byte;

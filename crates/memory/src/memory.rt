@@ -1,26 +1,28 @@
-//! What every memory keeps, whatever it is made of.
+//! The trait of memories.
 ghost use Rattle.std.specs.Prelude.{◌≡◌, ℕ, List};
 ghost use Rattle.std.specs.Option.{ok_or};
 ghost use Rattle.memory.specs.Lines.{Lines, lines_with, write_result, no_line};
 
 use protocol::{Fault, Refusal};
 
-/// A memory means the lines that it has and the value of each.
+/// A memory has some lines, each with a value.
 pub trait Memory {
+    // The lines that it has, and the value of each.
     ghost at: { Self → Lines };
 
-    // The slices that it borrows, by the names under which a proof follows them: whoever lends one knows by them what
-    // it holds once the memory is gone.
+    // The slices that it borrows, by their names in proofs. They show the lender what a slice holds
+    // when the memory is dropped.
     ghost lent: { Self → List ℕ };
 
-    // What it borrows besides its lines.
+    // The bytes that it borrows besides its lines.
     ghost spare: { Self → List ℕ };
 
-    /// The value of a line. Only a line that the memory lacks is refused.
+    /// The value of a line. Only a line that the memory does not have is refused.
     fn read(&self, line: u32) -> Result<u32, Fault>
         ensures { result ≡ ok_or (at self.now line) (no_line line) };
 
-    /// Sets the value of that line alone. Only a line that the memory lacks is refused, and then nothing changes.
+    /// Sets the value of one line. Only a line that the memory does not have is refused, and then
+    /// nothing changes.
     fn write(&mut self, line: u32, value: u32) -> Result<(), Fault>
         ensures answer { result ≡ write_result (at self.old line) (no_line line) }
         ensures after { at self.new ≡ lines_with (at self.old) line value }
@@ -28,7 +30,7 @@ pub trait Memory {
         ensures untouched { spare self.new ≡ spare self.old };
 }
 
-/// The refusal of a line that the memory lacks.
+/// The refusal of a line that the memory does not have.
 pub fn no_such_line(line: u32) -> Fault
     ensures { result ≡ no_line line }
 {

@@ -1,11 +1,11 @@
-//! Two memories as one.
+//! Two memories joined into one.
 ghost use Rattle.std.specs.Prelude.{◌++◌};
 ghost use Rattle.memory.specs.Lines.{split_lines};
 
 use crate::memory::Memory;
 use protocol::Fault;
 
-/// Any two memories, split memories among them: the even lines are the first's, the odd lines the second's.
+/// Two memories of any kind: the first has the even lines, the second the odd lines.
 #[derive(Drop)]
 pub struct SplitMemory<E, O> {
     pub even: E,
@@ -28,7 +28,6 @@ impl<E: Memory, O: Memory> Memory for SplitMemory<E, O> {
         value.map_err(|fault| fault.with_number(u64::from(line)))
     }
 
-    // Of the shape of `read`, but a part is lent for writing here, which no one function picks for both.
     fn write(&mut self, line: u32, value: u32) -> Result<(), Fault> {
         let done = if line % 2 == 0 {
             self.even.write(line / 2, value)

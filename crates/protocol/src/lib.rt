@@ -1,4 +1,4 @@
-//! What is asked of the machine, and how it refuses.
+//! The calls, answers and refusals of the machine, and its limits.
 #![tactic(auto)]
 
 mod answer;

@@ -1,4 +1,4 @@
--- What the numbers that are left add to the index gives the line's index.
+-- The index so far and the rest of the numbers give the line's index.
 use Rattle.std.proofs.Common.{◌≡◌, ◌/◌, ◌^◌, drop}
 use lib.Bits.{bit_xor}
 use Rattle.condensed.specs.Filter.{index_by}

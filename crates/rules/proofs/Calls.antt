@@ -37,7 +37,7 @@ use Rattle.rules.specs.Runs.{Run, event_of, run_with_call}
 use Rattle.rules.specs.Ending.{after_end}
 use Rattle.rules.specs.Making.{making_fault, first_warp_rows, new_machine}
 use Rattle.rules.specs.Transactions.{Transaction, is_written, transaction_named}
-use Rattle.rules.specs.Ledger.{without_current, with_committed, Ledger, ledger_after_settling, ledger_after_reply, ledger_after_event, new_ledger, ledger_of}
+use Rattle.rules.specs.Ledger.{without_current, with_committed, Ledger, ledger_after_settled, ledger_after_reply, ledger_after_event, new_ledger, ledger_of}
 use Rattle.rules.proofs.Verdicts.{Means, decide_means, room_means}
 use Rattle.rules.proofs.Invariant.{Inv}
 use Rattle.rules.proofs.OneWarp.{Room, serves_keeps, serves_own_keeps, waits_keeps, phase_keeps, ends_keep}
@@ -110,7 +110,7 @@ module _ (k : Kind) (first : Lines) (keeps : Keeps k) (policy : Policy k) (E₀ 
       -- What a call leaves, with what the account hears of it.
       abbrev Kept : Op → Step k → Type 0
       Kept op s =
-          Inv k first E s.machine (fold ledger_after_settling (ledger_after_reply l w (warp_row_of m w).stamp op s.answer) s.settled)
+          Inv k first E s.machine (fold ledger_after_settled (ledger_after_reply l w (warp_row_of m w).stamp op s.answer) s.settled)
 
       module _
           (tx : Transaction) (mine : l.current w ≡ Some tx) (calm : is_waiting (warp_row_of m w).phase ≡ false)
@@ -218,7 +218,7 @@ module _ (k : Kind) (first : Lines) (keeps : Keeps k) (policy : Policy k) (E₀ 
         by_fault :
             (o : Option Fault) → fault_of m call ≡ o
             → Inv k first E (checked_step policy m call o).machine
-            (fold ledger_after_settling
+            (fold ledger_after_settled
             (ledger_after_reply l call.warp (warp_row_of m call.warp).stamp call.op (checked_step policy m call o).answer)
             (checked_step policy m call o).settled)
         by_fault (Some fault) e = I
@@ -323,7 +323,7 @@ refusal_changes_nothing k policy m l call f e = (
   ap (λ o. (checked_step policy m call o).machine) e,
   ap
       (λ o.
-      fold ledger_after_settling
+      fold ledger_after_settled
       (ledger_after_reply l call.warp (warp_row_of m call.warp).stamp call.op (checked_step policy m call o).answer)
       (checked_step policy m call o).settled)
       e,

@@ -8,8 +8,8 @@ use Rattle.memory.specs.Lines.{Lines}
 use Rattle.book.specs.Meaning.{Kind}
 use Rattle.rules.specs.Lists.{has, last_of, numbers_below}
 use Rattle.rules.specs.Steps.{lines_after_stores}
-use Rattle.rules.specs.Transactions.{Found, own, by, at_first, Transaction, no_transaction, last_own_store, is_written}
-use Rattle.rules.specs.Transactions.{transaction_stores, transaction_named, writers, last_found}
+use Rattle.rules.specs.Transactions.{Source, own_store, committed_store, initial_memory, Transaction, no_transaction, last_own_store, is_written}
+use Rattle.rules.specs.Transactions.{transaction_stores, transaction_named, writers, committed_source}
 use Rattle.rules.proofs.ListFacts.{kept_append, has_upto, has_of_kept, last_push, last_stands}
 use Rattle.rules.proofs.Replay.{over, written_at, found_value, writer}
 use Rattle.rules.proofs.Serial.{key, key_of, Earlier, seen, stamp_at, key_at, Names, Right, writer_below}
@@ -90,28 +90,28 @@ module _ (first : Lines) (txs : List Transaction) (tx : Transaction) where
 
   -- What was found is still what it was.
   found_old :
-      (line : ℕ) (f : Found) → Names first txs f line
+      (line : ℕ) (f : Source) → Names first txs f line
       → found_value first more line f ≡ found_value first txs line f
-  found_old line own bad = absurd bad
-  found_old line (by j) w =
+  found_old line own_store bad = absurd bad
+  found_old line (committed_store j) w =
       ap (λ (t : Transaction). last_own_store t.actions line) (named_old j (writer_below first txs line j w))
-  found_old line at_first u = refl
+  found_old line initial_memory u = refl
 
-  pub names_last : (line : ℕ) → Names first txs (last_found (last_of (writers txs line))) line
+  pub names_last : (line : ℕ) → Names first txs (committed_source (last_of (writers txs line))) line
   names_last line = step (last_of (writers txs line)) refl
     where
-      step : (o : Option ℕ) → last_of (writers txs line) ≡ o → Names first txs (last_found o) line
+      step : (o : Option ℕ) → last_of (writers txs line) ≡ o → Names first txs (committed_source o) line
       step None e = tt
       step (Some j) e = (has_of_kept (writer first txs line) j (numbers_below n) (last_stands (writers txs line) j e)).1
 
-  seen_low : (line : ℕ) (f : Found) → Names first txs f line → seen f ≤ n
-  seen_low line own bad = absurd bad
-  seen_low line (by j) w = writer_below first txs line j w
-  seen_low line at_first u = omega arith
+  seen_low : (line : ℕ) (f : Source) → Names first txs f line → seen f ≤ n
+  seen_low line own_store bad = absurd bad
+  seen_low line (committed_store j) w = writer_below first txs line j w
+  seen_low line initial_memory u = omega arith
 
   -- A load that found the right store still did, if the new writer is later than it in logical time.
   pub right_more :
-      (place place' stamp warp line v : ℕ) (f : Found) → Right first txs place stamp warp line v f
+      (place place' stamp warp line v : ℕ) (f : Source) → Right first txs place stamp warp line v f
       → (place' ≡ place) ⊎ ((place ≡ n) × (place' ≡ suc n))
       → (is_written tx.actions line ≡ true → (n ≡ place' → ⊥) → Earlier (key stamp warp) place' (key_of tx) n)
       → Right first more place' stamp warp line v f
@@ -123,10 +123,10 @@ module _ (first : Lines) (txs : List Transaction) (tx : Transaction) where
         after = λ j w l d. after_now j l d (writer_cases line j w);
       }
     where
-      names_now : (g : Found) → Names first txs g line → Names first more g line
-      names_now own bad = bad
-      names_now (by j) w = writer_old line j w
-      names_now at_first u = u
+      names_now : (g : Source) → Names first txs g line → Names first more g line
+      names_now own_store bad = bad
+      names_now (committed_store j) w = writer_old line j w
+      names_now initial_memory u = u
 
       before_now :
           (j : ℕ) → j < seen f
@@ -255,11 +255,11 @@ module _
         last_now :
             (line : ℕ) (o : Option ℕ) → last_own_store tx.actions line ≡ o
             → lines_after_stores lines (transaction_stores tx.actions) line
-            ≡ found_value first (more first txs tx) line (last_found (last_of (writers (more first txs tx) line)))
+            ≡ found_value first (more first txs tx) line (committed_source (last_of (writers (more first txs tx) line)))
         last_now line None e =
             written_at lines tx.actions line ∙ ap (λ p. over p (lines line)) e ∙ c.last line
-            ∙ sym (found_old first txs tx line (last_found (last_of (writers txs line))) (names_last first txs tx line))
-            ∙ ap (λ ws. found_value first (more first txs tx) line (last_found (last_of ws)))
+            ∙ sym (found_old first txs tx line (committed_source (last_of (writers txs line))) (names_last first txs tx line))
+            ∙ ap (λ ws. found_value first (more first txs tx) line (committed_source (last_of ws)))
             (sym
             (writers_more first txs tx line ∙ ap (λ p. writers txs line ++ cond (is_some p) (length txs ∷ []) []) e
             ∙ append-nil (writers txs line)))
@@ -268,7 +268,7 @@ module _
             ∙ put_over v (lines line) (ready line (ap is_some e)).there
             ∙ sym e
             ∙ ap (λ (t : Transaction). last_own_store t.actions line) (sym (named_new first txs tx))
-            ∙ ap (λ o. found_value first (more first txs tx) line (last_found o))
+            ∙ ap (λ o. found_value first (more first txs tx) line (committed_source o))
             (sym
             (ap last_of
             (writers_more first txs tx line ∙ ap (λ p. writers txs line ++ cond (is_some p) (length txs ∷ []) []) e)
@@ -295,7 +295,7 @@ module _
 
     -- A load, likewise.
     pub read_more :
-        (place place' stamp warp line v : ℕ) (f : Found) → ReadNow k first txs H s place stamp warp line v f
+        (place place' stamp warp line v : ℕ) (f : Source) → ReadNow k first txs H s place stamp warp line v f
         → (place' ≡ place) ⊎ ((place ≡ length txs) × (place' ≡ suc (length txs)))
         → (is_written tx.actions line ≡ true → (length txs ≡ place' → ⊥)
         → Earlier (key stamp warp) place' (key_of tx) (length txs))

@@ -13,14 +13,14 @@ use Rattle.rules.specs.Serving.{served_on_free_line}
 use Rattle.rules.specs.Ending.{after_withdrawal, after_settling, after_try, after_turn_with, after_turns, without_lines, after_giving_up, after_end}
 use Rattle.rules.specs.Steps.{step_by_verdict, with_request_queued, fetched_step}
 use Rattle.rules.specs.Runs.{run_with_call}
-use Rattle.rules.specs.Transactions.{by, at_first, loaded, stored, load_action, Transaction, is_written}
+use Rattle.rules.specs.Transactions.{committed_store, initial_memory, loaded, stored, load_action, Transaction, is_written}
 use Rattle.rules.specs.Ledger.{Ledger, ledger_of, ledger_after_event}
 use Rattle.rules.specs.Account.{LoadResult, Account, account_after, serial_account, account_of}
 use Rattle.rules.specs.Laws.{IsHolder, is_waiting_now, WaitsFor, Leads, free, onward}
-use Rattle.rules.specs.Examples.{Sample, sample_run, sample_ledger, sample_commits, AgreeInOneOrder, AgreesInOneOrder, two_writers}
+use Rattle.rules.specs.Examples.{Sample, sample_run, sample_ledger, sample_commits, TransactionsAgreeInOneOrder, RunAgreesInOneOrder, two_writers}
 use Rattle.rules.specs.Examples.{TwoWriters, writer_reader, WriterThenReader, reader_writer, ReaderThenWriter}
-use Rattle.rules.specs.Examples.{same_stamp, SameStamp, SettledLoadFound, chain, ChainOfThree, lost_holder, run_early}
-use Rattle.rules.specs.Examples.{StampKeptUntilFetched, StampTakenEarly, LostUpdateUnexplained}
+use Rattle.rules.specs.Examples.{same_stamp, SameStamp, SettledLoadSeesCommit, chain, ChainOfThree, lost_holder, wrong_run}
+use Rattle.rules.specs.Examples.{StampKeptUntilFetched, EarlyStampBreaksWaits, LostUpdateUnexplained}
 use Rattle.rules.proofs.Replay.{writers_alone}
 
 -- Two names.
@@ -40,7 +40,7 @@ seven_eight e = let z : ◌≡◌ {A = ℕ} 7 8 = cc in omega arith
 seven_nine : ◌≡◌ {A = Option ℕ} (Some 7) (Some 9) → ⊥
 seven_nine e = let z : ◌≡◌ {A = ℕ} 7 9 = cc in omega arith
 
-pub settled_load_found : SettledLoadFound
+pub settled_load_found : SettledLoadSeesCommit
 unfolding run_with_call step_by_verdict served_on_free_line after_withdrawal after_settling after_try after_turn_with after_turns without_lines after_giving_up after_end with_request_queued fetched_step ledger_after_event
 settled_load_found = refl
 
@@ -55,13 +55,13 @@ SameLoads txs memory order n = (account_of txs memory).loads n ≡ (serial_accou
 -- From what a run commits and leaves, written out, to the run.
 sampled :
     (s : Sample) (txs : List Transaction) (memory : Lines) (a b : ℕ) → sample_commits s ≡ txs → length txs ≡ 2
-    → (sample_run s).machine.lines ≡ memory → AgreeInOneOrder (word_lines s.values) txs memory a b → AgreesInOneOrder s a b
+    → (sample_run s).machine.lines ≡ memory → TransactionsAgreeInOneOrder (word_lines s.values) txs memory a b → RunAgreesInOneOrder s a b
 sampled s txs memory a b e n m h =
     record {
       commits_two = ap length e ∙ n;
       apart =
-          subst (λ x. AgreeInOneOrder (word_lines s.values) (sample_commits s) x a b) (sym m)
-          (subst (λ x. AgreeInOneOrder (word_lines s.values) x memory a b) (sym e) h);
+          subst (λ x. TransactionsAgreeInOneOrder (word_lines s.values) (sample_commits s) x a b) (sym m)
+          (subst (λ x. TransactionsAgreeInOneOrder (word_lines s.values) x memory a b) (sym e) h);
     }
 
 -- Two write one line.
@@ -81,7 +81,7 @@ two_writers_leaves : (sample_run two_writers).machine.lines ≡ two_writers_memo
 unfolding run_with_call step_by_verdict served_on_free_line after_turns without_lines after_giving_up after_end ledger_after_event
 two_writers_leaves = refl
 
-two_writers_case : AgreeInOneOrder (word_lines (7 ∷ [])) two_writers_txs two_writers_memory 0 1
+two_writers_case : TransactionsAgreeInOneOrder (word_lines (7 ∷ [])) two_writers_txs two_writers_memory 0 1
 unfolding account_after
 two_writers_case =
     record {
@@ -112,7 +112,7 @@ two_writers_apart =
 abbrev writer_reader_txs : List Transaction
 writer_reader_txs =
     record { stamp = 0; warp = 0; actions = stored (log_entry 0 8) ∷ [] }
-    ∷ record { stamp = 5; warp = 1; actions = loaded (load_action 0 8 (by 0)) ∷ [] } ∷ []
+    ∷ record { stamp = 5; warp = 1; actions = loaded (load_action 0 8 (committed_store 0)) ∷ [] } ∷ []
 
 abbrev writer_reader_memory : Lines
 writer_reader_memory = lines_with (word_lines (7 ∷ [])) 0 8
@@ -125,7 +125,7 @@ writer_reader_leaves : (sample_run writer_reader).machine.lines ≡ writer_reade
 unfolding run_with_call step_by_verdict served_on_free_line after_turns without_lines after_giving_up after_end ledger_after_event
 writer_reader_leaves = refl
 
-writer_reader_case : AgreeInOneOrder (word_lines (7 ∷ [])) writer_reader_txs writer_reader_memory 0 1
+writer_reader_case : TransactionsAgreeInOneOrder (word_lines (7 ∷ [])) writer_reader_txs writer_reader_memory 0 1
 unfolding account_after
 writer_reader_case =
     record {
@@ -153,7 +153,7 @@ writer_reader_apart =
 abbrev reader_writer_txs : List Transaction
 reader_writer_txs =
     record { stamp = 5; warp = 1; actions = stored (log_entry 0 8) ∷ [] }
-    ∷ record { stamp = 0; warp = 0; actions = loaded (load_action 0 7 at_first) ∷ [] } ∷ []
+    ∷ record { stamp = 0; warp = 0; actions = loaded (load_action 0 7 initial_memory) ∷ [] } ∷ []
 
 abbrev reader_writer_memory : Lines
 reader_writer_memory = lines_with (word_lines (7 ∷ [])) 0 8
@@ -166,7 +166,7 @@ reader_writer_leaves : (sample_run reader_writer).machine.lines ≡ reader_write
 unfolding run_with_call step_by_verdict served_on_free_line after_turns without_lines after_giving_up after_end ledger_after_event
 reader_writer_leaves = refl
 
-reader_writer_case : AgreeInOneOrder (word_lines (7 ∷ [])) reader_writer_txs reader_writer_memory 1 0
+reader_writer_case : TransactionsAgreeInOneOrder (word_lines (7 ∷ [])) reader_writer_txs reader_writer_memory 1 0
 unfolding account_after
 reader_writer_case =
     record {
@@ -193,7 +193,7 @@ reader_writer_apart =
 -- One warp, twice at one stamp.
 abbrev same_stamp_txs : List Transaction
 same_stamp_txs =
-    record { stamp = 5; warp = 0; actions = loaded (load_action 0 7 at_first) ∷ [] }
+    record { stamp = 5; warp = 0; actions = loaded (load_action 0 7 initial_memory) ∷ [] }
     ∷ record { stamp = 5; warp = 0; actions = stored (log_entry 0 9) ∷ [] } ∷ []
 
 abbrev same_stamp_memory : Lines
@@ -207,7 +207,7 @@ same_stamp_leaves : (sample_run same_stamp).machine.lines ≡ same_stamp_memory
 unfolding run_with_call step_by_verdict served_on_free_line after_turns without_lines after_giving_up after_end ledger_after_event
 same_stamp_leaves = refl
 
-same_stamp_case : AgreeInOneOrder (word_lines (7 ∷ [])) same_stamp_txs same_stamp_memory 0 1
+same_stamp_case : TransactionsAgreeInOneOrder (word_lines (7 ∷ [])) same_stamp_txs same_stamp_memory 0 1
 unfolding account_after
 same_stamp_case =
     record {
@@ -353,26 +353,26 @@ no_way_on m l w v steps r with_request_queued asks holds above (onward {h = h} s
     in
     omega arith
 
-early_waits : is_waiting_now (run_early lost_holder).machine 3 ≡ true
+early_waits : is_waiting_now (wrong_run lost_holder).machine 3 ≡ true
 unfolding run_with_call step_by_verdict served_on_free_line after_withdrawal after_settling after_try after_turn_with after_turns without_lines after_giving_up after_end with_request_queued
 early_waits = refl
 
 early_asks :
-    request_of (run_early lost_holder).machine.queue 3 ≡ Some (record { warp = 3; line = 1; access = Read })
+    request_of (wrong_run lost_holder).machine.queue 3 ≡ Some (record { warp = 3; line = 1; access = Read })
 unfolding run_with_call step_by_verdict served_on_free_line after_withdrawal after_settling after_try after_turn_with after_turns without_lines after_giving_up after_end with_request_queued
 early_asks = refl
 
-early_holds : IsHolder (ledger_of (run_early lost_holder).events) 1 2
+early_holds : IsHolder (ledger_of (wrong_run lost_holder).events) 1 2
 unfolding run_with_call step_by_verdict served_on_free_line after_withdrawal after_settling after_try after_turn_with after_turns without_lines after_giving_up after_end with_request_queued ledger_after_event
 early_holds = (record { stamp = 5; warp = 2; actions = stored (log_entry 1 2) ∷ [] }, refl, refl)
 
 early_stamps :
-    (warp_row_of (run_early lost_holder).machine 3).stamp ≤ (warp_row_of (run_early lost_holder).machine 2).stamp
+    (warp_row_of (wrong_run lost_holder).machine 3).stamp ≤ (warp_row_of (wrong_run lost_holder).machine 2).stamp
 unfolding run_with_call step_by_verdict served_on_free_line after_withdrawal after_settling after_try after_turn_with after_turns without_lines after_giving_up after_end with_request_queued
 early_stamps = lit≤ tt
 
-pub stamp_taken_early : StampTakenEarly
+pub stamp_taken_early : EarlyStampBreaksWaits
 stamp_taken_early h =
     let r = h 3 early_waits in
-    no_way_on (run_early lost_holder).machine (ledger_of (run_early lost_holder).events) 3 2 r.0
+    no_way_on (wrong_run lost_holder).machine (ledger_of (wrong_run lost_holder).events) 3 2 r.0
     (record { warp = 3; line = 1; access = Read }) early_waits early_asks early_holds early_stamps r.1

@@ -22,7 +22,7 @@ use Rattle.rules.specs.declared.state.Access.TheVariants.{Read, Write}
 use Rattle.rules.specs.declared.state.Phase.{Phase}
 use Rattle.rules.specs.declared.state.Phase.TheVariants.{Idle, Open, Waiting, Settled}
 use Rattle.rules.specs.Logs.{log_entry, logged_lines}
-use Rattle.rules.specs.State.{WarpRow, Machine, Settling, idle_row, open_row, is_waiting, row_in_phase, warp_row_at, warp_row_of}
+use Rattle.rules.specs.State.{WarpRow, Machine, SettledRequest, idle_row, open_row, is_waiting, row_in_phase, warp_row_at, warp_row_of}
 use Rattle.rules.specs.State.{time_of, with_warp_row}
 use Rattle.rules.specs.declared.verdict.Verdict.{Verdict}
 use Rattle.rules.specs.declared.verdict.Verdict.TheVariants.{OwnLine, Gone as VerdictGone, MustWait, GoOn}
@@ -30,14 +30,14 @@ use Rattle.rules.specs.Access.{line_state, retried}
 use Rattle.rules.specs.Queue.{Policy, request_of, access_at, pending_access}
 use Rattle.rules.specs.Refusals.{phase_refuses, refusal_fault, fault_of}
 use Rattle.rules.specs.Serving.{served_on_free_line, served_on_own_line}
-use Rattle.rules.specs.Ending.{AfterTries, settling, after_withdrawal, after_settling, after_try, after_turn_with, after_turn, after_turns, without_lines}
+use Rattle.rules.specs.Ending.{AfterTries, settled_request, after_withdrawal, after_settling, after_try, after_turn_with, after_turn, after_turns, without_lines}
 use Rattle.rules.specs.Ending.{after_giving_up, after_end}
 use Rattle.rules.specs.Steps.{Step, with_request_queued, step_by_verdict, verdict_at, fetched_step, fetch_step, accepted_step, checked_step, step}
 use Rattle.rules.specs.Steps.{with_log_written}
 use Rattle.rules.specs.Making.{new_machine, first_warp_rows, making_fault}
-use Rattle.rules.specs.Runs.{Event, Run, event_of, run_with_call, settlings, last_settling}
+use Rattle.rules.specs.Runs.{Event, Run, event_of, run_with_call, settled_requests, last_settled_request}
 use Rattle.rules.specs.Transactions.{Action, loaded, stored, load_action, Transaction}
-use Rattle.rules.specs.Ledger.{Ledger, with_action, load_found, with_current, with_joined, with_begun, without_current, with_committed, ledger_after_reply, ledger_after_outcome, ledger_after_settling}
+use Rattle.rules.specs.Ledger.{Ledger, with_action, load_source, with_current, with_joined_action, with_begun, without_current, with_committed, ledger_after_reply, ledger_after_outcome, ledger_after_settled}
 use Rattle.rules.specs.Ledger.{ledger_after_event, new_ledger, ledger_of}
 use Rattle.rules.specs.Laws.{HasJoined, FetchReturns, FetchesReturn, LawOfFetches}
 use Rattle.rules.proofs.ListFacts.{folded_append}
@@ -97,7 +97,7 @@ Has current = (tx : Transaction) × (current ≡ Some tx)
 
 joined_here :
     (l : Ledger) (w : ℕ) (action : Transaction → Action) (tx : Transaction) → l.current w ≡ Some tx
-    → (with_joined l w action).current w ≡ Some (with_action tx (action tx))
+    → (with_joined_action l w action).current w ≡ Some (with_action tx (action tx))
 joined_here l w action tx mine =
     current_here l w (option_map (λ t. with_action t (action t)) (l.current w))
     ∙ ap (option_map (λ t. with_action t (action t))) mine
@@ -117,14 +117,14 @@ lost_fits (Write value) cause next = tt
 
 comes_joined :
     (l : Ledger) (w line : ℕ) (access : Access) (outcome : Outcome) → Fits access outcome → Has (l.current w)
-    → HasJoined ((ledger_after_outcome l w line access outcome).current w) (settling w line access outcome) outcome
+    → HasJoined ((ledger_after_outcome l w line access outcome).current w) (settled_request w line access outcome) outcome
 comes_joined l w line Read (Value value) fits h = (
-  load_found l.committed h.0 line,
+  load_source l.committed h.0 line,
   refl,
   (
-    with_action h.0 (loaded (load_action line value (load_found l.committed h.0 line))),
+    with_action h.0 (loaded (load_action line value (load_source l.committed h.0 line))),
     h.0.actions,
-    joined_here l w (λ tx. loaded (load_action line value (load_found l.committed tx line))) h.0 h.1,
+    joined_here l w (λ tx. loaded (load_action line value (load_source l.committed tx line))) h.0 h.1,
     refl,
   ),
 )
@@ -154,24 +154,24 @@ comes_other l w line (Write new) Stored v n = current_there l w _ v n
 comes_other l w line (Write new) (OutcomeGone cause next) v n = refl
 
 -- A request that has joined is of a warp that has a transaction.
-joined_has : (o : Option Transaction) (s : Settling) (outcome : Outcome) → HasJoined o s outcome → Has o
+joined_has : (o : Option Transaction) (s : SettledRequest) (outcome : Outcome) → HasJoined o s outcome → Has o
 joined_has o s (Value value) j = (j.2.0, j.2.2)
 joined_has o s Stored j = (j.2.0, j.2.2)
 joined_has o s (OutcomeGone cause next) j = j
 
 -- The last that came out, when one more comes out.
 last_here :
-    (settled : List Settling) (s : Settling) → last_settling (settled ++ s ∷ []) s.warp ≡ Some s
+    (settled : List SettledRequest) (s : SettledRequest) → last_settled_request (settled ++ s ∷ []) s.warp ≡ Some s
 last_here settled s =
-    fold_push (λ found (x : Settling). cond (eqb x.warp s.warp) (Some x) found) None settled s
-    ∙ ap (λ b. cond b (Some s) (last_settling settled s.warp)) (eq-eqb s.warp s.warp refl)
+    fold_push (λ found (x : SettledRequest). cond (eqb x.warp s.warp) (Some x) found) None settled s
+    ∙ ap (λ b. cond b (Some s) (last_settled_request settled s.warp)) (eq-eqb s.warp s.warp refl)
 
 last_there :
-    (settled : List Settling) (s : Settling) (v : ℕ) → (v ≡ s.warp → ⊥)
-    → last_settling (settled ++ s ∷ []) v ≡ last_settling settled v
+    (settled : List SettledRequest) (s : SettledRequest) (v : ℕ) → (v ≡ s.warp → ⊥)
+    → last_settled_request (settled ++ s ∷ []) v ≡ last_settled_request settled v
 last_there settled s v n =
-    fold_push (λ found (x : Settling). cond (eqb x.warp v) (Some x) found) None settled s
-    ∙ ap (λ b. cond b (Some s) (last_settling settled v)) (ne_eqb s.warp v (λ e. n (sym e)))
+    fold_push (λ found (x : SettledRequest). cond (eqb x.warp v) (Some x) found) None settled s
+    ∙ ap (λ b. cond b (Some s) (last_settled_request settled v)) (ne_eqb s.warp v (λ e. n (sym e)))
 
 -- What a call that is not refused says of its warp.
 phase_fine :
@@ -208,26 +208,26 @@ waits_if (Settled outcome) o access e = absurd (cc)
 
 -- In the middle of a call, after some events, of a warp with its transaction now, and the request of its that came out
 -- last at this call: it came out now, or before, and then nothing has changed.
-record Now (current : Option Transaction) (here : Option Settling) (outcome : Outcome) : Type 0 where
-  settling : Settling
-  came_out : here ≡ Some settling
-  its_outcome : outcome ≡ settling.outcome
-  joined : HasJoined current settling settling.outcome
+record Now (current : Option Transaction) (here : Option SettledRequest) (outcome : Outcome) : Type 0 where
+  request : SettledRequest
+  settled_there : here ≡ Some request
+  its_outcome : outcome ≡ request.outcome
+  joined : HasJoined current request request.outcome
 
 module _ (events : List Event) where
-  record Before (w : ℕ) (current : Option Transaction) (here : Option Settling) (outcome : Outcome) : Type 0 where
+  record Before (w : ℕ) (current : Option Transaction) (here : Option SettledRequest) (outcome : Outcome) : Type 0 where
     none_here : here ≡ None
     told_so : FetchReturns events w (answer_of outcome)
-    stays : current ≡ (ledger_of events).current w
+    unchanged : current ≡ (ledger_of events).current w
 
-  abbrev Tells : ℕ → Option Transaction → Option Settling → Phase → Type 0
+  abbrev Tells : ℕ → Option Transaction → Option SettledRequest → Phase → Type 0
   Tells w current here Idle = Unit {0}
   Tells w current here Open = Has current
   Tells w current here Waiting = Has current
   Tells w current here (Settled outcome) = Now current here outcome ⊎ Before w current here outcome
 
   same_tells :
-      (w : ℕ) (o o' : Option Transaction) (s s' : Option Settling) (p p' : Phase) → o' ≡ o → s' ≡ s → p' ≡ p
+      (w : ℕ) (o o' : Option Transaction) (s s' : Option SettledRequest) (p p' : Phase) → o' ≡ o → s' ≡ s → p' ≡ p
       → Tells w o s p → Tells w o' s' p'
   same_tells w o o' s s' p p' a b c h =
       subst (λ x. Tells w x s' p') (sym a)
@@ -235,24 +235,24 @@ module _ (events : List Event) where
 
   -- A fetch of an outcome finds a transaction.
   settled_has :
-      (w : ℕ) (o : Option Transaction) (s : Option Settling) (outcome : Outcome) → Tells w o s (Settled outcome)
+      (w : ℕ) (o : Option Transaction) (s : Option SettledRequest) (outcome : Outcome) → Tells w o s (Settled outcome)
       → Has o
-  settled_has w o s outcome (inl now) = joined_has o now.settling now.settling.outcome now.joined
+  settled_has w o s outcome (inl now) = joined_has o now.request now.request.outcome now.joined
   settled_has w o s outcome (inr before) =
       let t = before.told_so in
       let had =
-      joined_has ((ledger_of (t.earlier ++ t.let_out ∷ [])).current w) t.settling t.settling.outcome t.joined
+      joined_has ((ledger_of (t.earlier ++ t.settling_event ∷ [])).current w) t.request t.request.outcome t.joined
       in
-      (had.0, before.stays ∙ t.stays ∙ had.1)
+      (had.0, before.unchanged ∙ t.unchanged ∙ had.1)
 
   module _ {k : Kind} where
     -- So it is of every warp.
-    abbrev Known : Machine k → (ℕ → Option Transaction) → (ℕ → Option Settling) → Type 0
+    abbrev Known : Machine k → (ℕ → Option Transaction) → (ℕ → Option SettledRequest) → Type 0
     Known m current here = (w : ℕ) → Tells w (current w) (here w) (warp_row_of m w).phase
 
     -- One warp moves.
     moves :
-        (m m' : Machine k) (current current' : ℕ → Option Transaction) (here here' : ℕ → Option Settling) (w : ℕ)
+        (m m' : Machine k) (current current' : ℕ → Option Transaction) (here here' : ℕ → Option SettledRequest) (w : ℕ)
         → Known m current here
         → ((v : ℕ) → (v ≡ w → ⊥) → (warp_row_of m' v).phase ≡ (warp_row_of m v).phase)
         → ((v : ℕ) → (v ≡ w → ⊥) → current' v ≡ current v)
@@ -284,10 +284,10 @@ module _ (events : List Event) where
     module _ (start : Ledger) where
       -- What is known in the middle of the tries of a call.
       abbrev told_by : AfterTries k → Ledger
-      told_by st = fold ledger_after_settling start st.settled
+      told_by st = fold ledger_after_settled start st.settled
 
       abbrev KnownIn : AfterTries k → Type 0
-      KnownIn st = Known st.machine (told_by st).current (last_settling st.settled)
+      KnownIn st = Known st.machine (told_by st).current (last_settled_request st.settled)
 
       comes_known :
           (st : AfterTries k) (m : Machine k) (w line : ℕ) (access : Access) (outcome : Outcome)
@@ -295,26 +295,26 @@ module _ (events : List Event) where
           → Has ((told_by st).current w) → Fits access outcome
           → KnownIn
           (record
-          { machine = after_settling m w outcome; settled = st.settled ++ settling w line access outcome ∷ [] })
+          { machine = after_settling m w outcome; settled = st.settled ++ settled_request w line access outcome ∷ [] })
       comes_known st m w line access outcome known same has fits =
           subst
           (λ (l : Ledger).
           Known (after_settling m w outcome) l.current
-          (last_settling (st.settled ++ settling w line access outcome ∷ [])))
-          (sym (fold_push ledger_after_settling start st.settled (settling w line access outcome)))
+          (last_settled_request (st.settled ++ settled_request w line access outcome ∷ [])))
+          (sym (fold_push ledger_after_settled start st.settled (settled_request w line access outcome)))
           (moves st.machine (after_settling m w outcome) (told_by st).current
-          (ledger_after_outcome (told_by st) w line access outcome).current (last_settling st.settled)
-          (last_settling (st.settled ++ settling w line access outcome ∷ [])) w known
+          (ledger_after_outcome (told_by st) w line access outcome).current (last_settled_request st.settled)
+          (last_settled_request (st.settled ++ settled_request w line access outcome ∷ [])) w known
           (λ v n. settles_kept m w outcome v n ∙ same v)
           (λ v n. comes_other (told_by st) w line access outcome v n)
-          (λ v n. last_there st.settled (settling w line access outcome) v n)
+          (λ v n. last_there st.settled (settled_request w line access outcome) v n)
           (settles_phase m w outcome
           (Tells w ((ledger_after_outcome (told_by st) w line access outcome).current w)
-          (last_settling (st.settled ++ settling w line access outcome ∷ []) w)) tt
+          (last_settled_request (st.settled ++ settled_request w line access outcome ∷ []) w)) tt
           (inl
           (record {
-            settling = settling w line access outcome;
-            came_out = last_here st.settled (settling w line access outcome);
+            request = settled_request w line access outcome;
+            settled_there = last_here st.settled (settled_request w line access outcome);
             its_outcome = refl;
             joined = comes_joined (told_by st) w line access outcome fits has;
           }))))
@@ -355,7 +355,7 @@ module _ (events : List Event) where
       retried_known st w line (Some access) e known =
           tried_known st w line access (retried access (line_state k st.machine.book line) (time_of st.machine w))
           known
-          (subst (Tells w ((told_by st).current w) (last_settling st.settled w))
+          (subst (Tells w ((told_by st).current w) (last_settled_request st.settled w))
           (waits_if (warp_row_of st.machine w).phase (access_at (request_of st.machine.queue w) line) access e)
           (known w))
 
@@ -393,8 +393,8 @@ module _ (events : List Event) where
       -- What a call leaves, with what the account hears of it.
       abbrev After : Op → Step k → Type 0
       After op s =
-          Known s.machine (fold ledger_after_settling (ledger_after_reply l w (warp_row_of m w).stamp op s.answer) s.settled).current
-          (last_settling s.settled)
+          Known s.machine (fold ledger_after_settled (ledger_after_reply l w (warp_row_of m w).stamp op s.answer) s.settled).current
+          (last_settled_request s.settled)
 
       -- One row is put, with its warp's transaction.
       puts_known :
@@ -413,11 +413,11 @@ module _ (events : List Event) where
         joins_known :
             (m' : Machine k) (action : Transaction → Action)
             → ((v : ℕ) → (warp_row_of m' v).phase ≡ (warp_row_of m v).phase)
-            → Known m' (with_joined l w action).current (λ v. None)
+            → Known m' (with_joined_action l w action).current (λ v. None)
         joins_known m' action same =
-            moves m m' l.current (with_joined l w action).current (λ v. None) (λ v. None) w known (λ v n. same v)
+            moves m m' l.current (with_joined_action l w action).current (λ v. None) (λ v. None) w known (λ v n. same v)
             (λ v n. current_there l w _ v n) (λ v n. refl)
-            (subst (Tells w ((with_joined l w action).current w) None) (sym (same w ∙ may))
+            (subst (Tells w ((with_joined_action l w action).current w) None) (sym (same w ∙ may))
             (with_action its.0 (action its.0), joined_here l w action its.0 its.1))
 
         accessed_known :
@@ -473,7 +473,7 @@ module _ (events : List Event) where
     step_known :
         (policy : Policy k) (m : Machine k) (l : Ledger) → Known m l.current (λ v. None) → (call : Call)
         → Known (step policy m call).machine (ledger_after_event l (event_of policy m call)).current
-        (last_settling (event_of policy m call).settled)
+        (last_settled_request (event_of policy m call).settled)
     unfolding ledger_after_event
     step_known policy m l known call = by_fault (fault_of m call) refl
       where
@@ -507,12 +507,12 @@ module _ (events : List Event) where
         by_phase Open e said more = absurd (more (cc))
         by_phase Waiting e said more = absurd (more (cc))
         by_phase (Settled outcome) e said more =
-            ⊎_elim (λ (now : Now ((ledger_of events).current w) None outcome). absurd (none now.settling now.came_out))
+            ⊎_elim (λ (now : Now ((ledger_of events).current w) None outcome). absurd (none now.request now.settled_there))
             (λ before.
             subst (FetchReturns events w) (sym (fetch_answer policy m w outcome answer said)) before.told_so)
             (subst (Tells w ((ledger_of events).current w) None) e (known w))
           where
-            none : (s : Settling) → None ≡ Some s → ⊥
+            none : (s : SettledRequest) → None ≡ Some s → ⊥
             none s e = cc
 
     call_told :
@@ -530,21 +530,21 @@ module _ (events : List Event) where
             (ap (λ o. (accepted_step policy m call.warp o).answer) (sym op) ∙ said) more
 
 -- From one call to the next.
-settlings_push : (events : List Event) (e : Event) → settlings (events ++ e ∷ []) ≡ settlings events ++ e.settled
+settlings_push : (events : List Event) (e : Event) → settled_requests (events ++ e ∷ []) ≡ settled_requests events ++ e.settled
 settlings_push [] e = append-nil e.settled
 settlings_push (x ∷ events) e =
-    ap (λ l. x.settled ++ l) (settlings_push events e) ∙ sym (append_assoc x.settled (settlings events) e.settled)
+    ap (λ l. x.settled ++ l) (settlings_push events e) ∙ sym (append_assoc x.settled (settled_requests events) e.settled)
 
 none_more :
-    (events : List Event) (e : Event) (w : ℕ) → last_settling (settlings events) w ≡ None
-    → last_settling e.settled w ≡ None → last_settling (settlings (events ++ e ∷ [])) w ≡ None
+    (events : List Event) (e : Event) (w : ℕ) → last_settled_request (settled_requests events) w ≡ None
+    → last_settled_request e.settled w ≡ None → last_settled_request (settled_requests (events ++ e ∷ [])) w ≡ None
 none_more events e w before here =
-    ap (λ l. last_settling l w) (settlings_push events e)
-    ∙ folded_append (λ found (x : Settling). cond (eqb x.warp w) (Some x) found) None (settlings events) e.settled
-    ∙ ap (λ o. fold (λ found (x : Settling). cond (eqb x.warp w) (Some x) found) o e.settled) before ∙ here
+    ap (λ l. last_settled_request l w) (settlings_push events e)
+    ∙ folded_append (λ found (x : SettledRequest). cond (eqb x.warp w) (Some x) found) None (settled_requests events) e.settled
+    ∙ ap (λ o. fold (λ found (x : SettledRequest). cond (eqb x.warp w) (Some x) found) o e.settled) before ∙ here
 
 tells_next :
-    (events : List Event) (e : Event) (w : ℕ) (here : Option Settling) → last_settling e.settled w ≡ here
+    (events : List Event) (e : Event) (w : ℕ) (here : Option SettledRequest) → last_settled_request e.settled w ≡ here
     → (p : Phase) → Tells events w ((ledger_of (events ++ e ∷ [])).current w) here p
     → Tells (events ++ e ∷ []) w ((ledger_of (events ++ e ∷ [])).current w) None p
 tells_next events e w here same Idle h = tt
@@ -557,17 +557,17 @@ tells_next events e w here same (Settled outcome) (inl now) =
       told_so =
           record {
             earlier = events;
-            let_out = e;
+            settling_event = e;
             since = [];
             in_turn = refl;
-            settling = now.settling;
-            came_out = same ∙ now.came_out;
+            request = now.request;
+            settled_there = same ∙ now.settled_there;
             none_since = refl;
-            told = ap answer_of now.its_outcome;
+            answered = ap answer_of now.its_outcome;
             joined = now.joined;
-            stays = refl;
+            unchanged = refl;
           };
-      stays = refl;
+      unchanged = refl;
     })
 tells_next events e w here same (Settled outcome) (inr before) =
     let t = before.told_so in
@@ -577,18 +577,18 @@ tells_next events e w here same (Settled outcome) (inr before) =
       told_so =
           record {
             earlier = t.earlier;
-            let_out = t.let_out;
+            settling_event = t.settling_event;
             since = t.since ++ e ∷ [];
             in_turn =
-                ap (λ l. l ++ e ∷ []) t.in_turn ∙ append_assoc t.earlier (t.let_out ∷ t.since) (e ∷ []);
-            settling = t.settling;
-            came_out = t.came_out;
+                ap (λ l. l ++ e ∷ []) t.in_turn ∙ append_assoc t.earlier (t.settling_event ∷ t.since) (e ∷ []);
+            request = t.request;
+            settled_there = t.settled_there;
             none_since = none_more t.since e w t.none_since (same ∙ before.none_here);
-            told = t.told;
+            answered = t.answered;
             joined = t.joined;
-            stays = before.stays ∙ t.stays;
+            unchanged = before.unchanged ∙ t.unchanged;
           };
-      stays = refl;
+      unchanged = refl;
     })
 
 -- One event more is the last, or the list was split before.
@@ -622,7 +622,7 @@ module _ {k : Kind} (policy : Policy k) where
             (warp_row_of (step policy r.machine call).machine w).phase
             (subst
             (λ (l : Ledger).
-            Tells r.events w (l.current w) (last_settling (event_of policy r.machine call).settled w)
+            Tells r.events w (l.current w) (last_settled_request (event_of policy r.machine call).settled w)
             (warp_row_of (step policy r.machine call).machine w).phase)
             (sym (fold_push ledger_after_event new_ledger r.events (event_of policy r.machine call)))
             (step_known r.events policy r.machine (ledger_of r.events) good.known call w));

@@ -7,7 +7,7 @@ use Rattle.memory.specs.Lines.{Lines}
 use Rattle.book.specs.Meaning.{Kind}
 use Rattle.book.specs.Time.{Time, earlier}
 use Rattle.rules.specs.Lists.{has, last_of}
-use Rattle.rules.specs.Transactions.{Found, Transaction, transaction_named, writers, last_found}
+use Rattle.rules.specs.Transactions.{Source, Transaction, transaction_named, writers, committed_source}
 use Rattle.rules.proofs.Replay.{found_value, writer, EachLoad}
 use Rattle.rules.proofs.Serial.{key, stamp_at, Right}
 
@@ -77,14 +77,14 @@ module _ (k : Kind) (first : Lines) where
     pub line_low : (line i : ℕ) → writer first txs line i ≡ true → line < line_limit
     pub there : (line i : ℕ) → writer first txs line i ≡ true → is_some (first line) ≡ true
     pub passes : (line i : ℕ) → writer first txs line i ≡ true → stamp_at first txs i < k.write_stamp s line
-    pub last : (line : ℕ) → lines line ≡ found_value first txs line (last_found (last_of (writers txs line)))
+    pub last : (line : ℕ) → lines line ≡ found_value first txs line (committed_source (last_of (writers txs line)))
     pub same_lines : (line : ℕ) → is_some (lines line) ≡ is_some (first line)
     pub holder : (h line t : ℕ) → H h line ≡ Some t → Holder txs lines s h line t
     pub owner_holds : (line h : ℕ) → line < line_limit → k.owner s line ≡ Some h → (t : ℕ) × (H h line ≡ Some t)
 
   -- A load of a transaction at a place, a stamp and a warp.
   pub record ReadNow
-      (txs : List Transaction) (H : Holding) (s : k.State) (place stamp warp line v : ℕ) (f : Found)
+      (txs : List Transaction) (H : Holding) (s : k.State) (place stamp warp line v : ℕ) (f : Source)
       : Type 0
     where
       pub right : Right first txs place stamp warp line v f
@@ -125,7 +125,7 @@ module _ (k : Kind) (first : Lines) where
         }
 
     pub read_grown :
-        (place stamp warp line v : ℕ) (f : Found) → ReadNow txs H s place stamp warp line v f
+        (place stamp warp line v : ℕ) (f : Source) → ReadNow txs H s place stamp warp line v f
         → ReadNow txs H s' place stamp warp line v f
     read_grown place stamp warp line v f r =
         record {
@@ -232,7 +232,7 @@ module _ (k : Kind) (first : Lines) where
               (old.0, hold_kept c h line old.0 old.1)
 
       pub read_taken :
-          (place stamp warp line v : ℕ) (f : Found) → warp < 32 → ReadNow txs H s place stamp warp line v f
+          (place stamp warp line v : ℕ) (f : Source) → warp < 32 → ReadNow txs H s place stamp warp line v f
           → ReadNow txs (with_hold H w at t) s' place stamp warp line v f
       read_taken place stamp warp line v f low r =
           record {
@@ -335,7 +335,7 @@ module _ (k : Kind) (first : Lines) where
               )
 
       pub read_let_go :
-          (place stamp warp line v : ℕ) (f : Found) → ReadNow txs H s place stamp warp line v f
+          (place stamp warp line v : ℕ) (f : Source) → ReadNow txs H s place stamp warp line v f
           → ReadNow txs (without_holds H w gone) s' place stamp warp line v f
       read_let_go place stamp warp line v f r =
           record {

@@ -3,7 +3,7 @@ use Rattle.std.proofs.Common.{◌≡◌, ℕ, suc, ◌<◌, ◌≤◌, Bool, tru
 use mathlib.Core.Path.{fun_ext}
 use Rattle.std.proofs.lemmas.Bool.{lt-ltb, eqb-true, eqb-false, cases_lt, cases_order}
 use Rattle.std.proofs.lemmas.List.{length_push}
-use Rattle.std.specs.Option.{option_map}
+use Rattle.std.specs.Option.{option_map, option_to_list}
 use Rattle.protocol.specs.Limits.{line_limit}
 use Rattle.memory.specs.Lines.{Lines}
 use Rattle.book.specs.Meaning.{Kind}
@@ -11,11 +11,11 @@ use Rattle.book.specs.Time.{earlier}
 use Rattle.rules.specs.Lists.{has, last_of, numbers_below}
 use Rattle.rules.specs.Logs.{log_entry}
 use Rattle.rules.specs.Steps.{lines_after_stores}
-use Rattle.rules.specs.Transactions.{Found, Action, loaded, stored, load_action, Transaction, last_own_store, is_written}
+use Rattle.rules.specs.Transactions.{Source, Action, loaded, stored, load_action, Transaction, last_own_store, is_written}
 use Rattle.rules.specs.Transactions.{transaction_stores, transaction_named}
-use Rattle.rules.specs.Transactions.{writers, last_found}
-use Rattle.rules.specs.Ledger.{Ledger, found_at, load_found, with_action, with_current, with_load, with_store, with_begun}
-use Rattle.rules.specs.Ledger.{without_current, as_list, with_committed}
+use Rattle.rules.specs.Transactions.{writers, committed_source}
+use Rattle.rules.specs.Ledger.{Ledger, source_before, load_source, with_action, with_current, with_load, with_store, with_begun}
+use Rattle.rules.specs.Ledger.{without_current, with_committed}
 use Rattle.rules.proofs.ListFacts.{eqb_sym, kept_has, has_upto, kept_upto_rises, last_some, last_tops}
 use Rattle.rules.proofs.Replay.{AtLoad, each_weaker, writer}
 use Rattle.rules.proofs.Serial.{key, key_of, Earlier, seen, writer_below}
@@ -242,14 +242,14 @@ module _ (k : Kind) (first : Lines) where
           (s' : k.State) → Grown k s s' → (line v : ℕ) → last_own_store tx.actions line ≡ Some v
           → History (with_load l w line v) lines s'
       load_own s' g line v e =
-          subst (λ l'. History l' lines s') (as_joined (λ t. loaded (load_action line v (load_found l.committed t line))))
-          (joined s' g (loaded (load_action line v (load_found l.committed tx line))) (λ n. refl)
+          subst (λ l'. History l' lines s') (as_joined (λ t. loaded (load_action line v (load_source l.committed t line))))
+          (joined s' g (loaded (load_action line v (load_source l.committed tx line))) (λ n. refl)
           (λ r. (
             subst
                 (λ o.
                 AtLoad
                 (ReadNow k first l.committed (hold l) s' (length l.committed) tx.stamp tx.warp)
-                line v (found_at o (last_found (last_of (writers l.committed line)))) o)
+                line v (source_before o (committed_source (last_of (writers l.committed line)))) o)
                 (sym e) (refl, refl),
             r,
           )))
@@ -261,21 +261,21 @@ module _ (k : Kind) (first : Lines) where
           → earlier (k.read_mark s' line) (tx.stamp, tx.warp) ≡ false
           → History (with_load l w line v) lines s'
       load_other s' g line v e value low nobody unwritten reached =
-          subst (λ l'. History l' lines s') (as_joined (λ t. loaded (load_action line v (load_found l.committed t line))))
-          (joined s' g (loaded (load_action line v (load_found l.committed tx line))) (λ n. refl)
+          subst (λ l'. History l' lines s') (as_joined (λ t. loaded (load_action line v (load_source l.committed t line))))
+          (joined s' g (loaded (load_action line v (load_source l.committed tx line))) (λ n. refl)
           (λ r. (
             subst
                 (λ o.
                 AtLoad
                 (ReadNow k first l.committed (hold l) s' (length l.committed) tx.stamp tx.warp)
-                line v (found_at o (last_found (last_of (writers l.committed line)))) o)
+                line v (source_before o (committed_source (last_of (writers l.committed line)))) o)
                 (sym e) reading,
             r,
           )))
         where
           late :
               (j : ℕ) → writer first l.committed line j ≡ true
-              → seen (last_found (last_of (writers l.committed line))) ≤ j → ⊥
+              → seen (committed_source (last_of (writers l.committed line))) ≤ j → ⊥
           late j wj above =
               let inside : has j (writers l.committed line) ≡ true =
               kept_has (writer first l.committed line) j (numbers_below (length l.committed))
@@ -288,14 +288,14 @@ module _ (k : Kind) (first : Lines) where
               last_tops (writers l.committed line) z.0 j
               (kept_upto_rises (writer first l.committed line) (length l.committed)) z.1 inside
               in
-              let q : seen (last_found (last_of (writers l.committed line))) ≡ suc z.0 =
-              ap (λ o. seen (last_found o)) z.1
+              let q : seen (committed_source (last_of (writers l.committed line))) ≡ suc z.0 =
+              ap (λ o. seen (committed_source o)) z.1
               in
               omega arith
 
           reading :
               ReadNow k first l.committed (hold l) s' (length l.committed) tx.stamp tx.warp line v
-              (last_found (last_of (writers l.committed line)))
+              (committed_source (last_of (writers l.committed line)))
           reading =
               record {
                 right =
@@ -391,7 +391,7 @@ module _ (k : Kind) (first : Lines) where
       committed gone s' g all =
           subst
           (λ o.
-          History (record { current = (without_current l w).current; committed = l.committed ++ as_list o })
+          History (record { current = (without_current l w).current; committed = l.committed ++ option_to_list o })
           (lines_after_stores lines (transaction_stores tx.actions)) s')
           (sym mine) closed
         where
@@ -424,7 +424,7 @@ module _ (k : Kind) (first : Lines) where
               }
 
           later :
-              (place place' stamp warp line v : ℕ) (f : Found)
+              (place place' stamp warp line v : ℕ) (f : Source)
               → (place' ≡ place) ⊎ ((place ≡ length l.committed) × (place' ≡ suc (length l.committed)))
               → (key stamp warp ≤ key_of tx → (length l.committed ≡ place' → ⊥)
               → Earlier (key stamp warp) place' (key_of tx) (length l.committed))

@@ -20,7 +20,7 @@ use Rattle.rules.specs.Ending.{after_withdrawal, after_settling, without_lines}
 use Rattle.rules.specs.Steps.{with_request_queued, with_log_written, lines_after_stores}
 use Rattle.rules.specs.Transactions.{loaded, stored, load_action, Transaction, last_own_store, is_written, transaction_stores}
 use Rattle.rules.specs.Transactions.{store_count}
-use Rattle.rules.specs.Ledger.{Ledger, load_found, with_current, with_begun, without_current, with_committed, ledger_after_outcome}
+use Rattle.rules.specs.Ledger.{Ledger, load_source, with_current, with_begun, without_current, with_committed, ledger_after_outcome}
 use Rattle.rules.proofs.History.{Holding, LetGo, without_holds}
 use Rattle.rules.proofs.Ledgers.{hold_in, hold, hold_writes, History, begun, ended, load_own, load_other, store_own}
 use Rattle.rules.proofs.Ledgers.{store_new, nothing_left, committed}
@@ -156,7 +156,7 @@ module _
             let note = after_note k keeps m.book I.good line (warp_row_of m w).stamp w low R.in_clock low_w in
             does k first keeps E m l I w tx mine
             (with_book m (state_after_note k m.book line (time_of m w)))
-            (λ t. loaded (load_action line (memory_value m line) (load_found l.committed t line))) note.good
+            (λ t. loaded (load_action line (memory_value m line) (load_source l.committed t line))) note.good
             (load_other k first l m.lines m.book I.history w tx mine
             (state_after_note k m.book line (time_of m w)) note.grown line (memory_value m line)
             (not_own go.nobody) (some_value (m.lines line) in_memory) low go.nobody
@@ -165,7 +165,7 @@ module _
             (same_time (warp_row_of m w).stamp R.same_stamp) note.reaches))
             refl refl (λ v. refl) (λ v. refl) (λ v n. refl) (λ n x. x) R.same_log
             (tally_load k first m.lines l m.book (state_after_note k m.book line (time_of m w)) I.history I.tallied
-            note.counts w (λ t. loaded (load_action line (memory_value m line) (load_found l.committed t line)))
+            note.counts w (λ t. loaded (load_action line (memory_value m line) (load_source l.committed t line)))
             (λ t n. refl) (λ t n. refl) tx mine)
         serves_keeps (Write value) go =
             let take =
@@ -205,7 +205,7 @@ module _
             (λ t.
             loaded
             (load_action line (unwrap_or (last_stored (warp_row_of m w).log line) (memory_value m line))
-            (load_found l.committed t line)))
+            (load_source l.committed t line)))
             note.good
             (load_own k first l m.lines m.book I.history w tx mine
             (state_after_note k m.book line (time_of m w)) note.grown line
@@ -221,7 +221,7 @@ module _
             (λ t.
             loaded
             (load_action line (unwrap_or (last_stored (warp_row_of m w).log line) (memory_value m line))
-            (load_found l.committed t line)))
+            (load_source l.committed t line)))
             (λ t n. refl) (λ t n. refl) tx mine)
         serves_own_keeps (Write value) room owned =
             let u = own_value owned in

@@ -8,8 +8,8 @@ use Rattle.memory.specs.Lines.{Lines, lines_with}
 use Rattle.rules.specs.Lists.{has, last_of}
 use Rattle.rules.specs.Logs.{LogEntry}
 use Rattle.rules.specs.Steps.{lines_after_stores}
-use Rattle.rules.specs.Transactions.{Found, own, by, at_first, Action, loaded, stored, Transaction, last_own_store, is_written}
-use Rattle.rules.specs.Transactions.{is_read, transaction_stores, transaction_named, last_found}
+use Rattle.rules.specs.Transactions.{Source, own_store, committed_store, initial_memory, Action, loaded, stored, Transaction, last_own_store, is_written}
+use Rattle.rules.specs.Transactions.{is_read, transaction_stores, transaction_named, committed_source}
 use Rattle.rules.specs.Account.{LoadResult, Account, load_results, load_result_alone, load_results_alone, account_after}
 use Rattle.rules.proofs.ListFacts.{eqb_sym, eqb_same, folded_append}
 
@@ -49,10 +49,10 @@ written_at ls (stored s ∷ actions) line =
 
 module _ (first : Lines) (txs : List Transaction) where
   -- The value of the store that a load found.
-  abbrev pub found_value : ℕ → Found → Option ℕ
-  found_value line own = None
-  found_value line (by name) = last_own_store (transaction_named txs name).actions line
-  found_value line at_first = first line
+  abbrev pub found_value : ℕ → Source → Option ℕ
+  found_value line own_store = None
+  found_value line (committed_store name) = last_own_store (transaction_named txs name).actions line
+  found_value line initial_memory = first line
 
   abbrev pub writer : ℕ → ℕ → Bool
   writer line name = is_written (transaction_named txs name).actions line
@@ -78,10 +78,10 @@ module _ (first : Lines) (txs : List Transaction) where
   -- A line's value is its last writer's, or the first memory's.
   pub values_alone :
       (line : ℕ) (order : List ℕ) (a : Account) (o : Option ℕ)
-      → a.last_values line ≡ found_value line (last_found o)
+      → a.last_values line ≡ found_value line (committed_source o)
       → ((name : ℕ) → writer line name ≡ true → is_some (a.last_values line) ≡ true)
       → (fold (account_after txs) a order).last_values line
-      ≡ found_value line (last_found (fold (λ _ n. Some n) o (filter (writer line) order)))
+      ≡ found_value line (committed_source (fold (λ _ n. Some n) o (filter (writer line) order)))
   unfolding account_after
   values_alone line [] a o e there = e
   values_alone line (x ∷ order) a o e there =
@@ -95,11 +95,11 @@ module _ (first : Lines) (txs : List Transaction) where
       goal : Option ℕ → List ℕ → Type 0
       goal p ws =
           (fold (account_after txs) (account_after txs a x) order).last_values line
-          ≡ found_value line (last_found (fold (λ _ n. Some n) p ws))
+          ≡ found_value line (committed_source (fold (λ _ n. Some n) p ws))
 
       rest : Type 0
       rest =
-          (p : Option ℕ) → (account_after txs a x).last_values line ≡ found_value line (last_found p)
+          (p : Option ℕ) → (account_after txs a x).last_values line ≡ found_value line (committed_source p)
           → ((name : ℕ) → writer line name ≡ true → is_some ((account_after txs a x).last_values line) ≡ true)
           → goal p (filter (writer line) order)
 
@@ -148,34 +148,34 @@ module _ (first : Lines) (txs : List Transaction) where
       here = fold (account_after txs) a p
 
 -- What holds of each load of a transaction: after an own store it gave that value; else P.
-abbrev pub AtLoad : (ℕ → ℕ → Found → Type 0) → ℕ → ℕ → Found → Option ℕ → Type 0
-AtLoad P line v f (Some u) = (v ≡ u) × (f ≡ own)
+abbrev pub AtLoad : (ℕ → ℕ → Source → Type 0) → ℕ → ℕ → Source → Option ℕ → Type 0
+AtLoad P line v f (Some u) = (v ≡ u) × (f ≡ own_store)
 AtLoad P line v f None = P line v f
 
-abbrev pub EachLoad : (ℕ → ℕ → Found → Type 0) → List Action → Type 0
+abbrev pub EachLoad : (ℕ → ℕ → Source → Type 0) → List Action → Type 0
 EachLoad P [] = Unit {0}
-EachLoad P (loaded d ∷ actions) = AtLoad P d.line d.value d.found (last_own_store actions d.line) × EachLoad P actions
+EachLoad P (loaded d ∷ actions) = AtLoad P d.line d.value d.source (last_own_store actions d.line) × EachLoad P actions
 EachLoad P (stored s ∷ actions) = EachLoad P actions
 
 pub each_weaker :
-    (P Q : ℕ → ℕ → Found → Type 0) → ((line v : ℕ) (f : Found) → P line v f → Q line v f)
+    (P Q : ℕ → ℕ → Source → Type 0) → ((line v : ℕ) (f : Source) → P line v f → Q line v f)
     → (actions : List Action) → EachLoad P actions → EachLoad Q actions
 each_weaker P Q to [] h = tt
 each_weaker P Q to (loaded d ∷ actions) h =
     (step (last_own_store actions d.line) h.0, each_weaker P Q to actions h.1)
   where
-    step : (o : Option ℕ) → AtLoad P d.line d.value d.found o → AtLoad Q d.line d.value d.found o
-    step None p = to d.line d.value d.found p
+    step : (o : Option ℕ) → AtLoad P d.line d.value d.source o → AtLoad Q d.line d.value d.source o
+    step None p = to d.line d.value d.source p
     step (Some u) p = p
 each_weaker P Q to (stored s ∷ actions) h = each_weaker P Q to actions h
 
 -- Loads that find alone what they found in the run get what they got in the run, and the other way round.
-module _ (P : ℕ → ℕ → Found → Type 0) (a : Account) where
-  abbrev there : ℕ → Found
-  there line = last_found (last_of (a.line_writers line))
+module _ (P : ℕ → ℕ → Source → Type 0) (a : Account) where
+  abbrev there : ℕ → Source
+  there line = committed_source (last_of (a.line_writers line))
 
   pub gets_the_same :
-      ((line v : ℕ) (f : Found) → P line v f → (a.last_values line ≡ Some v) × (there line ≡ f))
+      ((line v : ℕ) (f : Source) → P line v f → (a.last_values line ≡ Some v) × (there line ≡ f))
       → (actions : List Action) → EachLoad P actions → load_results actions ≡ load_results_alone a actions
   gets_the_same same [] h = refl
   gets_the_same same (loaded d ∷ actions) h =
@@ -183,16 +183,16 @@ module _ (P : ℕ → ℕ → Found → Type 0) (a : Account) where
       ∙ ap (λ l. load_result_alone (last_own_store actions d.line) (a.last_values d.line) (there d.line) ∷ l)
       (gets_the_same same actions h.1)
     where
-      got : ℕ → Found → LoadResult
-      got u g = record { value = Some u; found = g }
+      got : ℕ → Source → LoadResult
+      got u g = record { value = Some u; source = g }
 
       step :
-          (o : Option ℕ) → AtLoad P d.line d.value d.found o
-          → got d.value d.found ≡ load_result_alone o (a.last_values d.line) (there d.line)
-      step (Some u) p = ap (λ x. got x d.found) p.0 ∙ ap (got u) p.1
+          (o : Option ℕ) → AtLoad P d.line d.value d.source o
+          → got d.value d.source ≡ load_result_alone o (a.last_values d.line) (there d.line)
+      step (Some u) p = ap (λ x. got x d.source) p.0 ∙ ap (got u) p.1
       step None p =
-          let s = same d.line d.value d.found p in
-          (λ i. record { value = sym s.0 i; found = sym s.1 i })
+          let s = same d.line d.value d.source p in
+          (λ i. record { value = sym s.0 i; source = sym s.1 i })
   gets_the_same same (stored s ∷ actions) h = gets_the_same same actions h
 
   pub finds_the_same :
@@ -203,31 +203,31 @@ module _ (P : ℕ → ℕ → Found → Type 0) (a : Account) where
       (step (last_own_store actions d.line) h.0 (cc), finds_the_same actions (cc) h.1)
     where
       step :
-          (o : Option ℕ) → AtLoad P d.line d.value d.found o
-          → record { value = Some d.value; found = d.found } ≡ load_result_alone o (a.last_values d.line) (there d.line)
-          → AtLoad (λ line v f. P line v f × (f ≡ there line)) d.line d.value d.found o
+          (o : Option ℕ) → AtLoad P d.line d.value d.source o
+          → record { value = Some d.value; source = d.source } ≡ load_result_alone o (a.last_values d.line) (there d.line)
+          → AtLoad (λ line v f. P line v f × (f ≡ there line)) d.line d.value d.source o
       step (Some u) p q = p
-      step None p q = (p, ap (λ (g : LoadResult). g.found) q)
+      step None p q = (p, ap (λ (g : LoadResult). g.source) q)
   finds_the_same (stored s ∷ actions) e h = finds_the_same actions e h
 
 -- A transaction that loaded a line and never stored to it found another's store there.
 pub found_elsewhere :
-    (P : ℕ → ℕ → Found → Type 0) (line : ℕ) (actions : List Action) → is_read actions line ≡ true
-    → last_own_store actions line ≡ None → EachLoad P actions → (v : ℕ) × (f : Found) × P line v f
+    (P : ℕ → ℕ → Source → Type 0) (line : ℕ) (actions : List Action) → is_read actions line ≡ true
+    → last_own_store actions line ≡ None → EachLoad P actions → (v : ℕ) × (f : Source) × P line v f
 found_elsewhere P line [] r n h = absurd (both_ways false refl r)
 found_elsewhere P line (loaded d ∷ actions) r n h =
     step (eqb d.line line) refl r (λ k. found_elsewhere P line actions k n h.1)
   where
     step :
         (b : Bool) → eqb d.line line ≡ b → (b || is_read actions line) ≡ true
-        → (is_read actions line ≡ true → (v : ℕ) × (f : Found) × P line v f)
-        → (v : ℕ) × (f : Found) × P line v f
+        → (is_read actions line ≡ true → (v : ℕ) × (f : Source) × P line v f)
+        → (v : ℕ) × (f : Source) × P line v f
     step true e k rest =
         let same : d.line ≡ line = eqb-true d.line line e in
-        let here : AtLoad P d.line d.value d.found None =
-        subst (AtLoad P d.line d.value d.found) (ap (last_own_store actions) same ∙ n) h.0
+        let here : AtLoad P d.line d.value d.source None =
+        subst (AtLoad P d.line d.value d.source) (ap (last_own_store actions) same ∙ n) h.0
         in
-        (d.value, d.found, subst (λ l. P l d.value d.found) same here)
+        (d.value, d.source, subst (λ l. P l d.value d.source) same here)
     step false e k rest = rest k
 found_elsewhere P line (stored s ∷ actions) r n h =
     found_elsewhere P line actions r (step (eqb s.line line) n) h
@@ -238,7 +238,7 @@ found_elsewhere P line (stored s ∷ actions) r n h =
 
 -- Each load is of a line that its transaction loaded.
 pub each_read :
-    (P : ℕ → ℕ → Found → Type 0) (R : ℕ → Type 0) (actions : List Action)
+    (P : ℕ → ℕ → Source → Type 0) (R : ℕ → Type 0) (actions : List Action)
     → ((line : ℕ) → is_read actions line ≡ true → R line) → EachLoad P actions
     → EachLoad (λ line v f. P line v f × R line) actions
 each_read P R [] to h = tt
@@ -248,8 +248,8 @@ each_read P R (loaded d ∷ actions) to h = (
 )
   where
     step :
-        (o : Option ℕ) → AtLoad P d.line d.value d.found o
-        → AtLoad (λ line v f. P line v f × R line) d.line d.value d.found o
+        (o : Option ℕ) → AtLoad P d.line d.value d.source o
+        → AtLoad (λ line v f. P line v f × R line) d.line d.value d.source o
     step (Some u) p = p
     step None p = (p, to d.line (or_left (eqb d.line d.line) (is_read actions d.line) (eqb_same d.line)))
 each_read P R (stored s ∷ actions) to h = each_read P R actions to h

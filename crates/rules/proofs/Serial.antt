@@ -5,8 +5,8 @@ use Rattle.std.proofs.lemmas.Bool.Decides.{nat_tests}
 use Rattle.std.proofs.lemmas.List.{get_or_past}
 use Rattle.memory.specs.Lines.{Lines}
 use Rattle.rules.specs.Lists.{has, last_of, numbers_below, occurrences, is_before}
-use Rattle.rules.specs.Transactions.{Found, own, by, at_first, Transaction, no_transaction, last_own_store, is_written}
-use Rattle.rules.specs.Transactions.{is_read, transaction_named, writers, last_found}
+use Rattle.rules.specs.Transactions.{Source, own_store, committed_store, initial_memory, Transaction, no_transaction, last_own_store, is_written}
+use Rattle.rules.specs.Transactions.{is_read, transaction_named, writers, committed_source}
 use Rattle.rules.specs.Account.{Account, load_results, load_results_alone, serial_account, account_of, EachOnce, EqualAccounts}
 use Rattle.rules.specs.LogicalTime.{is_earlier, IsInLogicalOrder}
 use Rattle.rules.proofs.ListFacts.{has_append, has_kept, kept_has, kept_append, has_of_kept, has_upto, has_count, Once}
@@ -69,10 +69,10 @@ clashing false true false false h = absurd (both_ways false refl h)
 clashing false false wb rb h = absurd (both_ways false refl h)
 
 -- How many commits a find has seen.
-abbrev pub seen : Found → ℕ
-seen own = 0
-seen (by name) = suc name
-seen at_first = 0
+abbrev pub seen : Source → ℕ
+seen own_store = 0
+seen (committed_store name) = suc name
+seen initial_memory = 0
 
 module _ (first : Lines) (txs : List Transaction) where
   abbrev pub stamp_at : ℕ → ℕ
@@ -82,14 +82,14 @@ module _ (first : Lines) (txs : List Transaction) where
   key_at name = key_of (transaction_named txs name)
 
   -- A find names a committed writer of the line, or the first memory.
-  abbrev pub Names : Found → ℕ → Type 0
-  Names own line = ⊥
-  Names (by name) line = writer first txs line name ≡ true
-  Names at_first line = Unit {0}
+  abbrev pub Names : Source → ℕ → Type 0
+  Names own_store line = ⊥
+  Names (committed_store name) line = writer first txs line name ≡ true
+  Names initial_memory line = Unit {0}
 
   -- A load by a transaction at a place, a stamp and a warp found the right store: the writers up to the one found have
   -- smaller stamps, and every other writer but itself is later in logical time.
-  pub record Right (place stamp warp line v : ℕ) (f : Found) : Type 0 where
+  pub record Right (place stamp warp line v : ℕ) (f : Source) : Type 0 where
     pub names : Names f line
     pub value : found_value first txs line f ≡ Some v
     pub before : (j : ℕ) → writer first txs line j ≡ true → j < seen f → stamp_at j < stamp
@@ -105,7 +105,7 @@ pub record Serial (first : Lines) (txs : List Transaction) (memory : Lines) : Ty
   pub loads :
       (i : ℕ) → i < length txs
       → EachLoad (Right first txs i (transaction_named txs i).stamp (transaction_named txs i).warp) (transaction_named txs i).actions
-  pub last : (line : ℕ) → memory line ≡ found_value first txs line (last_found (last_of (writers txs line)))
+  pub last : (line : ℕ) → memory line ≡ found_value first txs line (committed_source (last_of (writers txs line)))
   pub warps : (i : ℕ) → i < length txs → (transaction_named txs i).warp < 32
   pub there : (line i : ℕ) → writer first txs line i ≡ true → is_some (first line) ≡ true
 
@@ -176,7 +176,7 @@ module _ (first : Lines) (txs : List Transaction) (memory : Lines) (S : Serial f
     valued :
         (line : ℕ) (p : List ℕ)
         → (serial_account first txs p).last_values line
-        ≡ found_value first txs line (last_found (last_of (filter (wr line) p)))
+        ≡ found_value first txs line (committed_source (last_of (filter (wr line) p)))
     valued line p = values_alone first txs line p start None refl (λ i h. S.there line i h)
 
     -- In every split of the order at a name, that name stands in neither part.
@@ -227,7 +227,7 @@ module _ (first : Lines) (txs : List Transaction) (memory : Lines) (S : Serial f
           ∙ sym (has_kept (wr line) z (numbers_below n)))
 
       -- What stands before a reader are just the writers that its find has seen.
-      module _ (i : ℕ) (i_low : i < n) (p q : List ℕ) (cut : order ≡ p ++ i ∷ q) (line v : ℕ) (f : Found)
+      module _ (i : ℕ) (i_low : i < n) (p q : List ℕ) (cut : order ≡ p ++ i ∷ q) (line v : ℕ) (f : Source)
           (right : Right first txs i (transaction_named txs i).stamp (transaction_named txs i).warp line v f)
           (reader : is_read (transaction_named txs i).actions line ≡ true)
         where
@@ -282,38 +282,38 @@ module _ (first : Lines) (txs : List Transaction) (memory : Lines) (S : Serial f
               rising_left (filter (wr line) p) (filter (wr line) (i ∷ q))
               (subst Rising (ap (filter (wr line)) cut ∙ kept_append (wr line) p (i ∷ q)) (writers_rise line))
 
-          finds : last_found (last_of (filter (wr line) p)) ≡ f
+          finds : committed_source (last_of (filter (wr line) p)) ≡ f
           finds = step f right.names front_seen seen_front
             where
               step :
-                  (g : Found) → Names first txs g line
+                  (g : Source) → Names first txs g line
                   → ((j : ℕ) → has j (filter (wr line) p) ≡ true → j < seen g)
                   → ((j : ℕ) → wr line j ≡ true → j < seen g → has j (filter (wr line) p) ≡ true)
-                  → last_found (last_of (filter (wr line) p)) ≡ g
-              step own bad up down = absurd bad
-              step (by j) t up down =
-                  ap last_found
+                  → committed_source (last_of (filter (wr line) p)) ≡ g
+              step own_store bad up down = absurd bad
+              step (committed_store j) t up down =
+                  ap committed_source
                   (last_rising (filter (wr line) p) j front_rises (down j t (omega arith))
                   (λ y h. let l = up y h in omega arith))
-              step at_first t up down =
-                  ap last_found
+              step initial_memory t up down =
+                  ap committed_source
                   (last_none (filter (wr line) p)
                   (λ y.
                   ⊎_elim (λ h. let l = up y h in absurd (omega arith)) (λ h. h)
                   (cases_Bool (has y (filter (wr line) p)))))
 
           gets : ((serial_account first txs p).last_values line ≡ Some v)
-              × (last_found (last_of ((serial_account first txs p).line_writers line)) ≡ f)
+              × (committed_source (last_of ((serial_account first txs p).line_writers line)) ≡ f)
           gets = (
             valued line p ∙ ap (found_value first txs line) finds ∙ right.value,
-            ap (λ l. last_found (last_of l)) (turned line p) ∙ finds,
+            ap (λ l. committed_source (last_of l)) (turned line p) ∙ finds,
           )
 
       equal_loads : (i : ℕ) → i < n → load_results (transaction_named txs i).actions ≡ (serial_account first txs order).loads i
       equal_loads i l =
           let s = split_at i order (stands i l) in
           let actions = (transaction_named txs i).actions in
-          let P : ℕ → ℕ → Found → Type 0 =
+          let P : ℕ → ℕ → Source → Type 0 =
           λ line v f.
           Right first txs i (transaction_named txs i).stamp (transaction_named txs i).warp line v f
           × (is_read actions line ≡ true)
@@ -332,7 +332,7 @@ module _ (first : Lines) (txs : List Transaction) (memory : Lines) (S : Serial f
             same_values =
                 λ line.
                 S.last line
-                ∙ ap (λ ws. found_value first txs line (last_found (last_of ws))) (sym (writers_same line))
+                ∙ ap (λ ws. found_value first txs line (committed_source (last_of ws))) (sym (writers_same line))
                 ∙ sym (valued line order);
             same_writers = λ line. sym (writers_same line) ∙ sym (turned line order);
           }
@@ -349,22 +349,22 @@ module _ (first : Lines) (txs : List Transaction) (memory : Lines) (S : Serial f
       finding :
           (i line : ℕ) → i < n → (p q : List ℕ) → order ≡ p ++ i ∷ q
           → is_read (transaction_named txs i).actions line ≡ true → wr line i ≡ false
-          → (v : ℕ) × (f : Found) × (Right first txs i (transaction_named txs i).stamp (transaction_named txs i).warp line v f
-          × (f ≡ last_found (last_of (filter (wr line) p))))
+          → (v : ℕ) × (f : Source) × (Right first txs i (transaction_named txs i).stamp (transaction_named txs i).warp line v f
+          × (f ≡ committed_source (last_of (filter (wr line) p))))
       finding i line l p q cut r t =
           let actions = (transaction_named txs i).actions in
-          let P : ℕ → ℕ → Found → Type 0 = Right first txs i (transaction_named txs i).stamp (transaction_named txs i).warp in
+          let P : ℕ → ℕ → Source → Type 0 = Right first txs i (transaction_named txs i).stamp (transaction_named txs i).warp in
           let e : load_results actions ≡ load_results_alone (serial_account first txs p) actions =
           equal_accounts.same_loads i l ∙ ap (λ o. (serial_account first txs o).loads i) cut
           ∙ loads_alone first txs i p q start (not_back i p q cut)
           in
           let g =
           found_elsewhere
-          (λ line v f. P line v f × (f ≡ last_found (last_of ((serial_account first txs p).line_writers line))))
+          (λ line v f. P line v f × (f ≡ committed_source (last_of ((serial_account first txs p).line_writers line))))
           line actions r (no_store (last_own_store actions line) t)
           (finds_the_same P (serial_account first txs p) actions e (S.loads i l))
           in
-          (g.0, g.1, (g.2.0, g.2.1 ∙ ap (λ ws. last_found (last_of ws)) (turned line p)))
+          (g.0, g.1, (g.2.0, g.2.1 ∙ ap (λ ws. committed_source (last_of ws)) (turned line p)))
         where
           no_store : (o : Option ℕ) → is_some o ≡ false → o ≡ None
           no_store None h = refl
@@ -407,10 +407,10 @@ module _ (first : Lines) (txs : List Transaction) (memory : Lines) (S : Serial f
             (in_front s.front s.back s.whole g.1 g.2.0.after g.2.1))
           where
             in_front :
-                (p q : List ℕ) → order ≡ p ++ b ∷ q → (f : Found)
+                (p q : List ℕ) → order ≡ p ++ b ∷ q → (f : Source)
                 → ((j : ℕ) → wr line j ≡ true → seen f ≤ j → (j ≡ b → ⊥)
                 → Earlier (key_at first txs b) b (key_at first txs j) j)
-                → f ≡ last_found (last_of (filter (wr line) p)) → has a p ≡ true
+                → f ≡ committed_source (last_of (filter (wr line) p)) → has a p ≡ true
             in_front p q cut f later e = by_last (last_of (filter (wr line) p)) refl
               where
                 saw : a < seen f
@@ -427,9 +427,9 @@ module _ (first : Lines) (txs : List Transaction) (memory : Lines) (S : Serial f
 
                 by_last : (o : Option ℕ) → last_of (filter (wr line) p) ≡ o → has a p ≡ true
                 by_last None k =
-                    let z : seen f ≡ 0 = ap seen (e ∙ ap last_found k) in absurd (omega (arith, saw))
+                    let z : seen f ≡ 0 = ap seen (e ∙ ap committed_source k) in absurd (omega (arith, saw))
                 by_last (Some j) k =
-                    let z : seen f ≡ suc j = ap seen (e ∙ ap last_found k) in
+                    let z : seen f ≡ suc j = ap seen (e ∙ ap committed_source k) in
                     ⊎_elim (λ h. h)
                     (λ h.
                     let up : j < a =
@@ -451,9 +451,9 @@ module _ (first : Lines) (txs : List Transaction) (memory : Lines) (S : Serial f
             ∙ in_back s.front s.back s.whole g.1 g.2.0.before g.2.1)
           where
             in_back :
-                (p q : List ℕ) → order ≡ p ++ a ∷ q → (f : Found)
+                (p q : List ℕ) → order ≡ p ++ a ∷ q → (f : Source)
                 → ((j : ℕ) → wr line j ≡ true → j < seen f → stamp_at first txs j < (transaction_named txs a).stamp)
-                → f ≡ last_found (last_of (filter (wr line) p)) → has b q ≡ true
+                → f ≡ committed_source (last_of (filter (wr line) p)) → has b q ≡ true
             in_back p q cut f sooner e =
                 by_cases (or_cases (has b p) (has b (a ∷ q)) (sym (has_append b p (a ∷ q)) ∙ in_whole))
               where
@@ -464,7 +464,7 @@ module _ (first : Lines) (txs : List Transaction) (memory : Lines) (S : Serial f
                 not_sooner h =
                     let k = kept_has (wr line) b p h tb in
                     let j = last_some (filter (wr line) p) b k in
-                    let z : seen f ≡ suc j.0 = ap seen (e ∙ ap last_found j.1) in
+                    let z : seen f ≡ suc j.0 = ap seen (e ∙ ap committed_source j.1) in
                     let r = rising_left (filter (wr line) p) (filter (wr line) (a ∷ q)) (parts_rise line a p q cut) in
                     let top : b ≤ j.0 = last_tops (filter (wr line) p) j.0 b r j.1 k in
                     let u : stamp_at first txs b < (transaction_named txs a).stamp = sooner b tb (omega arith) in

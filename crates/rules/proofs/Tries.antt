@@ -13,15 +13,15 @@ use Rattle.rules.specs.declared.state.Access.TheVariants.{Read, Write}
 use Rattle.rules.specs.declared.state.Request.{Request}
 use Rattle.rules.specs.Lists.{has}
 use Rattle.rules.specs.Logs.{log_entry, logged_lines}
-use Rattle.rules.specs.State.{WarpRow, Machine, Settling, idle_row, is_idle, is_waiting, warp_row_of, time_of}
+use Rattle.rules.specs.State.{WarpRow, Machine, SettledRequest, idle_row, is_idle, is_waiting, warp_row_of, time_of}
 use Rattle.rules.specs.declared.verdict.Verdict.{Verdict}
 use Rattle.rules.specs.declared.verdict.Verdict.TheVariants.{OwnLine, Gone as VerdictGone, MustWait, GoOn}
 use Rattle.rules.specs.Access.{line_state, retried}
 use Rattle.rules.specs.Queue.{Policy, request_of, access_at, pending_access}
 use Rattle.rules.specs.Serving.{memory_value, served_on_free_line}
-use Rattle.rules.specs.Ending.{AfterTries, after_settling, settling, after_try, after_turn_with, after_turn, after_turns, without_lines, after_giving_up, after_end}
+use Rattle.rules.specs.Ending.{AfterTries, after_settling, settled_request, after_try, after_turn_with, after_turn, after_turns, without_lines, after_giving_up, after_end}
 use Rattle.rules.specs.Transactions.{Transaction, loaded, stored, load_action}
-use Rattle.rules.specs.Ledger.{Ledger, with_action, load_found, ledger_after_settling, ledger_after_outcome}
+use Rattle.rules.specs.Ledger.{Ledger, with_action, load_source, ledger_after_settled, ledger_after_outcome}
 use Rattle.rules.proofs.Verdicts.{Means, retried_means}
 use Rattle.rules.proofs.Logs.{waiting_busy}
 use Rattle.rules.proofs.Invariant.{Matches, Blocked, Waiter, Inv, exempt, current_mine}
@@ -75,12 +75,12 @@ module _ {k : Kind} (m : Machine k) (w line : ℕ) where
 module _ (k : Kind) (first : Lines) (keeps : Keeps k) (start : Ledger) where
   -- The account after some requests have come out.
   abbrev pub told_by : AfterTries k → Ledger
-  told_by st = fold ledger_after_settling start st.settled
+  told_by st = fold ledger_after_settled start st.settled
 
   one_more :
-      (st : AfterTries k) (s : Settling)
-      → fold ledger_after_settling start (st.settled ++ s ∷ []) ≡ ledger_after_settling (told_by st) s
-  one_more st s = fold_push ledger_after_settling start st.settled s
+      (st : AfterTries k) (s : SettledRequest)
+      → fold ledger_after_settled start (st.settled ++ s ∷ []) ≡ ledger_after_settled (told_by st) s
+  one_more st s = fold_push ledger_after_settled start st.settled s
 
   -- After a served request its warp still has a transaction.
   served_current :
@@ -88,12 +88,12 @@ module _ (k : Kind) (first : Lines) (keeps : Keeps k) (start : Ledger) where
       → (t : Transaction) × ((ledger_after_outcome l w line access (served_on_free_line m w line access).outcome).current w ≡ Some t)
   unfolding served_on_free_line
   served_current m l w line Read tx mine = (
-    with_action tx (loaded (load_action line (memory_value m line) (load_found l.committed tx line))),
+    with_action tx (loaded (load_action line (memory_value m line) (load_source l.committed tx line))),
     current_mine k first l w
-        (option_map (λ t. with_action t (loaded (load_action line (memory_value m line) (load_found l.committed t line))))
+        (option_map (λ t. with_action t (loaded (load_action line (memory_value m line) (load_source l.committed t line))))
         (l.current w))
         ∙ ap
-        (option_map (λ t. with_action t (loaded (load_action line (memory_value m line) (load_found l.committed t line)))))
+        (option_map (λ t. with_action t (loaded (load_action line (memory_value m line) (load_source l.committed t line)))))
         mine,
   )
   served_current m l w line (Write value) tx mine = (
@@ -138,7 +138,7 @@ module _ (k : Kind) (first : Lines) (keeps : Keeps k) (start : Ledger) where
         tried_keeps access OwnLine bad = absurd bad
         tried_keeps access (VerdictGone cause next) u =
             subst (Inv k first E' (after_settling st.machine w (OutcomeGone cause next)))
-            (sym (one_more st (settling w line access (OutcomeGone cause next)) ∙ lost_joins_nothing access))
+            (sym (one_more st (settled_request w line access (OutcomeGone cause next)) ∙ lost_joins_nothing access))
             (settles_keeps k first keeps E st.machine (told_by st) I w its.0 its.1 E' (OutcomeGone cause next) others)
           where
             lost_joins_nothing : (a : Access) → ledger_after_outcome (told_by st) w line a (OutcomeGone cause next) ≡ told_by st
@@ -165,7 +165,7 @@ module _ (k : Kind) (first : Lines) (keeps : Keeps k) (start : Ledger) where
             subst
             (Inv k first E'
             (after_settling (served_on_free_line st.machine w line access).machine w (served_on_free_line st.machine w line access).outcome))
-            (sym (one_more st (settling w line access (served_on_free_line st.machine w line access).outcome)))
+            (sym (one_more st (settled_request w line access (served_on_free_line st.machine w line access).outcome)))
             (settles_keeps k first keeps E (served_on_free_line st.machine w line access).machine
             (ledger_after_outcome (told_by st) w line access (served_on_free_line st.machine w line access).outcome) served w its_now.0
             its_now.1 E' (served_on_free_line st.machine w line access).outcome others)

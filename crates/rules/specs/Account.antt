@@ -4,13 +4,13 @@ use Rattle.std.specs.Prelude.{◌≡◌, ℕ, ◌<◌, cond, List, [], ◌∷◌
 use Rattle.memory.specs.Lines.{Lines}
 use Rattle.rules.specs.Lists.{last_of, occurrences}
 use Rattle.rules.specs.Steps.{lines_after_stores}
-use Rattle.rules.specs.Transactions.{last_own_store, is_written, transaction_stores, transaction_named, writers, last_found, Found, Action, Transaction}
-use Rattle.rules.specs.Transactions.{own, loaded, stored}
+use Rattle.rules.specs.Transactions.{last_own_store, is_written, transaction_stores, transaction_named, writers, committed_source, Source, Action, Transaction}
+use Rattle.rules.specs.Transactions.{own_store, loaded, stored}
 
 -- What a load got: its value, and whose store it found.
 pub record LoadResult : Type 0 where
   pub value : Option ℕ
-  pub found : Found
+  pub source : Source
 
 -- What the loads of each committed transaction got, the latest first; each line's last value; each line's writers.
 pub record Account : Type 0 where
@@ -21,7 +21,7 @@ pub record Account : Type 0 where
 -- What a transaction's loads got in the run.
 abbrev pub load_results : List Action → List LoadResult
 load_results [] = []
-load_results (loaded d ∷ earlier_actions) = record { value = Some d.value; found = d.found } ∷ load_results earlier_actions
+load_results (loaded d ∷ earlier_actions) = record { value = Some d.value; source = d.source } ∷ load_results earlier_actions
 load_results (stored s ∷ earlier_actions) = load_results earlier_actions
 
 -- The machine's account: what was recorded, and the memory after the run.
@@ -34,15 +34,15 @@ account_of txs memory =
     }
 
 -- A load alone takes its own transaction's last store to the line, or else the line's value and last writer.
-abbrev pub load_result_alone : Option ℕ → Option ℕ → Found → LoadResult
-load_result_alone (Some mine) value found = record { value = Some mine; found = own }
-load_result_alone None value found = record { value = value; found = found }
+abbrev pub load_result_alone : Option ℕ → Option ℕ → Source → LoadResult
+load_result_alone (Some mine) value source = record { value = Some mine; source = own_store }
+load_result_alone None value source = record { value = value; source = source }
 
 -- What a transaction's loads get where an account has come to.
 abbrev pub load_results_alone : Account → List Action → List LoadResult
 load_results_alone a [] = []
 load_results_alone a (loaded d ∷ earlier_actions) =
-    load_result_alone (last_own_store earlier_actions d.line) (a.last_values d.line) (last_found (last_of (a.line_writers d.line)))
+    load_result_alone (last_own_store earlier_actions d.line) (a.last_values d.line) (committed_source (last_of (a.line_writers d.line)))
     ∷ load_results_alone a earlier_actions
 load_results_alone a (stored s ∷ earlier_actions) = load_results_alone a earlier_actions
 

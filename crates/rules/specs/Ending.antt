@@ -6,7 +6,7 @@ use Rattle.book.specs.Meaning.{Kind, state_after_release}
 use Rattle.rules.specs.declared.state.Access.{Access}
 use Rattle.rules.specs.declared.state.Phase.TheVariants.{Open, Settled}
 use Rattle.rules.specs.Logs.{logged_lines}
-use Rattle.rules.specs.State.{WarpRow, Machine, Settling, idle_row, row_in_phase, warp_row_of, time_of, with_book, with_warp_row}
+use Rattle.rules.specs.State.{WarpRow, Machine, SettledRequest, idle_row, row_in_phase, warp_row_of, time_of, with_book, with_warp_row}
 use Rattle.rules.specs.State.{with_queue}
 use Rattle.rules.specs.declared.verdict.Verdict.{Verdict}
 use Rattle.rules.specs.declared.verdict.Verdict.TheVariants.{OwnLine, Gone as VerdictGone, MustWait, GoOn}
@@ -17,11 +17,11 @@ use Rattle.rules.specs.Serving.{served_on_free_line}
 -- What a try and the tries after it leave: the machine, and the requests that have come out, in turn.
 pub record AfterTries (k : Kind) : Type 0 where
   pub machine : Machine k
-  pub settled : List Settling
+  pub settled : List SettledRequest
 
 -- A request that has come out.
-abbrev pub settling : ℕ → ℕ → Access → Outcome → Settling
-settling w line access outcome = record { warp = w; line = line; access = access; outcome = outcome }
+abbrev pub settled_request : ℕ → ℕ → Access → Outcome → SettledRequest
+settled_request w line access outcome = record { warp = w; line = line; access = access; outcome = outcome }
 
 -- A row whose request has come out. Its stamp stays until the outcome is fetched.
 abbrev pub with_outcome : WarpRow → Outcome → WarpRow
@@ -40,7 +40,7 @@ module _ {k : Kind} where
   -- The request is noted as the last that came out.
   abbrev pub with_settled : AfterTries k → Machine k → ℕ → ℕ → Access → Outcome → AfterTries k
   with_settled st m w line access outcome =
-      record { machine = after_settling m w outcome; settled = st.settled ++ settling w line access outcome ∷ [] }
+      record { machine = after_settling m w outcome; settled = st.settled ++ settled_request w line access outcome ∷ [] }
 
   -- A try by its verdict. One that must wait keeps its place. The first access step is no part of a try.
   unfoldable pub after_try : AfterTries k → ℕ → ℕ → Access → Verdict → AfterTries k

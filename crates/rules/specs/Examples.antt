@@ -11,7 +11,7 @@ use Rattle.rules.specs.Queue.{product_policy}
 use Rattle.rules.specs.Making.{new_machine}
 use Rattle.rules.specs.Runs.{Run, run_with_call}
 use Rattle.rules.specs.Logs.{log_entry}
-use Rattle.rules.specs.Transactions.{by, at_first, loaded, stored, load_action, Transaction}
+use Rattle.rules.specs.Transactions.{committed_store, initial_memory, loaded, stored, load_action, Transaction}
 use Rattle.rules.specs.Ledger.{Ledger, ledger_of}
 use Rattle.rules.specs.Account.{account_of, serial_account, EqualAccounts}
 use Rattle.rules.specs.LogicalTime.{is_earlier, Conflict}
@@ -36,16 +36,16 @@ sample_commits s = (sample_ledger s).committed
 
 -- Of transactions between a first and a last memory: two clash, the first is earlier in logical time, and only with the
 -- first in front do the accounts agree.
-pub record AgreeInOneOrder (first_memory : Lines) (txs : List Transaction) (last_memory : Lines) (a b : ℕ) : Type 0 where
+pub record TransactionsAgreeInOneOrder (first_memory : Lines) (txs : List Transaction) (last_memory : Lines) (a b : ℕ) : Type 0 where
   pub clash : Conflict txs a b
   pub in_time : is_earlier txs a b ≡ true
   pub agrees : EqualAccounts 2 (account_of txs last_memory) (serial_account first_memory txs (a ∷ b ∷ []))
   pub differs : EqualAccounts 2 (account_of txs last_memory) (serial_account first_memory txs (b ∷ a ∷ [])) → ⊥
 
 -- The same of a run that commits two.
-pub record AgreesInOneOrder (s : Sample) (a b : ℕ) : Type 0 where
+pub record RunAgreesInOneOrder (s : Sample) (a b : ℕ) : Type 0 where
   pub commits_two : length (sample_commits s) ≡ 2
-  pub apart : AgreeInOneOrder (word_lines s.values) (sample_commits s) (sample_run s).machine.lines a b
+  pub apart : TransactionsAgreeInOneOrder (word_lines s.values) (sample_commits s) (sample_run s).machine.lines a b
 
 -- Two write one line.
 abbrev pub two_writers : Sample
@@ -57,7 +57,7 @@ two_writers =
     }
 
 abbrev pub TwoWriters : Type 0
-TwoWriters = AgreesInOneOrder two_writers 0 1
+TwoWriters = RunAgreesInOneOrder two_writers 0 1
 
 -- One writes a line, and one that is later reads it.
 abbrev pub writer_reader : Sample
@@ -69,7 +69,7 @@ writer_reader =
     }
 
 abbrev pub WriterThenReader : Type 0
-WriterThenReader = AgreesInOneOrder writer_reader 0 1
+WriterThenReader = RunAgreesInOneOrder writer_reader 0 1
 
 -- One reads a line, and one that is later writes it and commits first: the order of the commits does not agree, the
 -- order of logical time does.
@@ -82,7 +82,7 @@ reader_writer =
     }
 
 abbrev pub ReaderThenWriter : Type 0
-ReaderThenWriter = AgreesInOneOrder reader_writer 1 0
+ReaderThenWriter = RunAgreesInOneOrder reader_writer 1 0
 
 -- One warp commits two transactions at one stamp: the place of the commit decides.
 abbrev pub same_stamp : Sample
@@ -94,7 +94,7 @@ same_stamp =
     }
 
 abbrev pub SameStamp : Type 0
-SameStamp = AgreesInOneOrder same_stamp 0 1
+SameStamp = RunAgreesInOneOrder same_stamp 0 1
 
 -- A load waits for a commit, and found that very commit.
 abbrev pub settled_load : Sample
@@ -105,11 +105,11 @@ settled_load =
       calls = begin_by 0 ∷ begin_by 1 ∷ store_by 0 0 8 ∷ load_by 1 0 ∷ commit_by 0 ∷ fetch_by 1 ∷ commit_by 1 ∷ [];
     }
 
-abbrev pub SettledLoadFound : Type 0
-SettledLoadFound =
+abbrev pub SettledLoadSeesCommit : Type 0
+SettledLoadSeesCommit =
     sample_commits settled_load
     ≡ record { stamp = 0; warp = 0; actions = stored (log_entry 0 8) ∷ [] }
-    ∷ record { stamp = 3; warp = 1; actions = loaded (load_action 0 8 (by 0)) ∷ [] } ∷ []
+    ∷ record { stamp = 3; warp = 1; actions = loaded (load_action 0 8 (committed_store 0)) ∷ [] } ∷ []
 
 -- Three wait in a chain: warp 3 for warp 2, warp 2 for warp 1, warp 1 for warp 0, which does not wait.
 abbrev pub chain : Sample
@@ -128,29 +128,29 @@ ChainOfThree = Leads (sample_run chain).machine (sample_ledger chain) 3 3
 
 -- A wrong machine takes the next stamp of a request that came out as gone at once, and not when it is fetched: while
 -- its warp still holds lines.
-abbrev pub stamp_taken : Phase → ℕ → ℕ
-stamp_taken Idle stamp = stamp
-stamp_taken Open stamp = stamp
-stamp_taken Waiting stamp = stamp
-stamp_taken (Settled (Value value)) stamp = stamp
-stamp_taken (Settled Stored) stamp = stamp
-stamp_taken (Settled (OutcomeGone cause next)) stamp = next
+abbrev pub next_stamp_taken : Phase → ℕ → ℕ
+next_stamp_taken Idle stamp = stamp
+next_stamp_taken Open stamp = stamp
+next_stamp_taken Waiting stamp = stamp
+next_stamp_taken (Settled (Value value)) stamp = stamp
+next_stamp_taken (Settled Stored) stamp = stamp
+next_stamp_taken (Settled (OutcomeGone cause next)) stamp = next
 
-abbrev pub row_taken : WarpRow → WarpRow
-row_taken warp_row = record warp_row { stamp = stamp_taken warp_row.phase warp_row.stamp }
+abbrev pub row_with_stamp_taken : WarpRow → WarpRow
+row_with_stamp_taken warp_row = record warp_row { stamp = next_stamp_taken warp_row.phase warp_row.stamp }
 
-abbrev pub taken_early : Machine exact → Machine exact
-taken_early m = record m { warp_rows = map row_taken m.warp_rows }
+abbrev pub with_stamps_taken : Machine exact → Machine exact
+with_stamps_taken m = record m { warp_rows = map row_with_stamp_taken m.warp_rows }
 
 -- One call more of it, and a run.
-abbrev pub goes_on_early : Run exact → Call → Run exact
-goes_on_early r call =
+abbrev pub wrong_run_with_call : Run exact → Call → Run exact
+wrong_run_with_call r call =
     let right = run_with_call (product_policy exact) r call in
-    record right { machine = taken_early right.machine }
+    record right { machine = with_stamps_taken right.machine }
 
-abbrev pub run_early : Sample → Run exact
-run_early s =
-    fold goes_on_early (record { machine = new_machine exact (word_lines s.values) exact_new s.stamps; events = [] }) s.calls
+abbrev pub wrong_run : Sample → Run exact
+wrong_run s =
+    fold wrong_run_with_call (record { machine = new_machine exact (word_lines s.values) exact_new s.stamps; events = [] }) s.calls
 
 -- Warps 1 and 2 wait for warp 0's line, both at stamp 5, and warp 3 at stamp 6 for a line of warp 2. Warp 0 commits: warp
 -- 1 takes the line, and warp 2's load comes out as gone, with the next stamp 7.
@@ -170,14 +170,14 @@ lost_holder =
 abbrev pub StampKeptUntilFetched : Type 0
 StampKeptUntilFetched = Leads (sample_run lost_holder).machine (sample_ledger lost_holder) 3 1
 
-abbrev pub StampTakenEarly : Type 0
-StampTakenEarly = WaitsEnd (run_early lost_holder).machine (ledger_of (run_early lost_holder).events) → ⊥
+abbrev pub EarlyStampBreaksWaits : Type 0
+EarlyStampBreaksWaits = WaitsEnd (wrong_run lost_holder).machine (ledger_of (wrong_run lost_holder).events) → ⊥
 
 -- What a wrong machine might commit: both loaded 7, and both stored. No order explains it.
 abbrev pub lost_update : List Transaction
 lost_update =
-    record { stamp = 0; warp = 0; actions = stored (log_entry 0 8) ∷ loaded (load_action 0 7 at_first) ∷ [] }
-    ∷ record { stamp = 0; warp = 1; actions = stored (log_entry 0 9) ∷ loaded (load_action 0 7 at_first) ∷ [] } ∷ []
+    record { stamp = 0; warp = 0; actions = stored (log_entry 0 8) ∷ loaded (load_action 0 7 initial_memory) ∷ [] }
+    ∷ record { stamp = 0; warp = 1; actions = stored (log_entry 0 9) ∷ loaded (load_action 0 7 initial_memory) ∷ [] } ∷ []
 
 -- An order explains it if the accounts agree.
 abbrev pub Explains : List ℕ → Type 0

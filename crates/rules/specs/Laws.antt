@@ -16,13 +16,13 @@ use Rattle.rules.specs.declared.state.Access.TheVariants.{Read, Write}
 use Rattle.rules.specs.declared.state.Request.{Request}
 use Rattle.rules.specs.Lists.{has}
 use Rattle.rules.specs.Logs.{log_entry}
-use Rattle.rules.specs.State.{is_idle, Machine, Settling, warp_row_of, is_waiting}
+use Rattle.rules.specs.State.{is_idle, Machine, SettledRequest, warp_row_of, is_waiting}
 use Rattle.rules.specs.Queue.{Policy, request_of, product_policy}
 use Rattle.rules.specs.Refusals.{fault_of}
 use Rattle.rules.specs.Steps.{refused_step, step}
 use Rattle.rules.specs.Making.{making_fault, new_machine}
-use Rattle.rules.specs.Runs.{Event, Run, run, settlings, last_settling}
-use Rattle.rules.specs.Transactions.{transaction_stores, store_count, Found, Action, loaded, stored, load_action, Transaction, is_written}
+use Rattle.rules.specs.Runs.{Event, Run, run, settled_requests, last_settled_request}
+use Rattle.rules.specs.Transactions.{transaction_stores, store_count, Source, Action, loaded, stored, load_action, Transaction, is_written}
 use Rattle.rules.specs.Ledger.{Ledger, ledger_of}
 use Rattle.rules.specs.Account.{account_of, serial_account, EachOnce, EqualAccounts}
 use Rattle.rules.specs.LogicalTime.{IsInLogicalOrder}
@@ -50,9 +50,9 @@ DidLast current action = (tx : Transaction) × (rest : List Action) × (current 
 
 -- A request that came out has joined its warp's transaction: a load with its value, a store with the value that it was
 -- to store; one that came out as gone joins nothing, and its transaction is not ended yet.
-abbrev pub HasJoined : Option Transaction → Settling → Outcome → Type 0
+abbrev pub HasJoined : Option Transaction → SettledRequest → Outcome → Type 0
 HasJoined current s (Value value) =
-    (found : Found) × (s.access ≡ Read) × DidLast current (loaded (load_action s.line value found))
+    (source : Source) × (s.access ≡ Read) × DidLast current (loaded (load_action s.line value source))
 HasJoined current s Stored =
     (value : ℕ) × (s.access ≡ Write value) × DidLast current (stored (log_entry s.line value))
 HasJoined current s (OutcomeGone cause next) = (tx : Transaction) × (current ≡ Some tx)
@@ -61,15 +61,15 @@ HasJoined current s (OutcomeGone cause next) = (tx : Transaction) × (current �
 -- account at the call that let it come out. Nothing joined its warp's transaction since.
 pub record FetchReturns (before : List Event) (w : ℕ) (answer : Answer) : Type 0 where
   pub earlier : List Event
-  pub let_out : Event
+  pub settling_event : Event
   pub since : List Event
-  pub in_turn : before ≡ earlier ++ let_out ∷ since
-  pub settling : Settling
-  pub came_out : last_settling let_out.settled w ≡ Some settling
-  pub none_since : last_settling (settlings since) w ≡ None
-  pub told : answer ≡ answer_of settling.outcome
-  pub joined : HasJoined ((ledger_of (earlier ++ let_out ∷ [])).current w) settling settling.outcome
-  pub stays : (ledger_of before).current w ≡ (ledger_of (earlier ++ let_out ∷ [])).current w
+  pub in_turn : before ≡ earlier ++ settling_event ∷ since
+  pub request : SettledRequest
+  pub settled_there : last_settled_request settling_event.settled w ≡ Some request
+  pub none_since : last_settled_request (settled_requests since) w ≡ None
+  pub answered : answer ≡ answer_of request.outcome
+  pub joined : HasJoined ((ledger_of (earlier ++ settling_event ∷ [])).current w) request request.outcome
+  pub unchanged : (ledger_of before).current w ≡ (ledger_of (earlier ++ settling_event ∷ [])).current w
 
 -- Every fetch that is neither refused nor told to wait is told so.
 abbrev pub FetchesReturn : List Event → Type 0

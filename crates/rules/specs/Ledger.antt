@@ -1,6 +1,6 @@
 -- The ledger: the machine's account of a run, kept from the answers, call by call: what joins which transaction, when.
 use Rattle.std.specs.Prelude.{ℕ, cond, List, [], ◌∷◌, ◌++◌, Ok, Err, Result, Some, None, fold, Option, ◌==◌}
-use Rattle.std.specs.Option.{option_map}
+use Rattle.std.specs.Option.{option_map, option_to_list}
 use Rattle.protocol.specs.declared.answer.Answer.{Answer}
 use Rattle.protocol.specs.declared.answer.Answer.TheVariants.{Done, Val, Wait, Gone}
 use Rattle.protocol.specs.declared.answer.Outcome.{Outcome}
@@ -12,10 +12,10 @@ use Rattle.rules.specs.declared.state.Access.{Access}
 use Rattle.rules.specs.declared.state.Access.TheVariants.{Read, Write}
 use Rattle.rules.specs.Lists.{last_of}
 use Rattle.rules.specs.Logs.{log_entry}
-use Rattle.rules.specs.State.{Settling}
+use Rattle.rules.specs.State.{SettledRequest}
 use Rattle.rules.specs.Runs.{Event}
-use Rattle.rules.specs.Transactions.{last_own_store, writers, last_found, Found, Action, Transaction}
-use Rattle.rules.specs.Transactions.{own, loaded, stored, load_action}
+use Rattle.rules.specs.Transactions.{last_own_store, writers, committed_source, Source, Action, Transaction}
+use Rattle.rules.specs.Transactions.{own_store, loaded, stored, load_action}
 
 -- The transaction of each warp that has one, and the committed ones in commit order.
 pub record Ledger : Type 0 where
@@ -23,31 +23,31 @@ pub record Ledger : Type 0 where
   pub committed : List Transaction
 
 -- A load finds its own transaction's last store to the line, or else the last committed one.
-abbrev pub found_at : Option ℕ → Found → Found
-found_at None others = others
-found_at (Some value) others = own
+abbrev pub source_before : Option ℕ → Source → Source
+source_before None others = others
+source_before (Some value) others = own_store
 
 -- A transaction that has done one thing more.
 abbrev pub with_action : Transaction → Action → Transaction
 with_action tx action = record tx { actions = action ∷ tx.actions }
 
 -- What a load finds when it joins its transaction.
-abbrev pub load_found : List Transaction → Transaction → ℕ → Found
-load_found txs tx line = found_at (last_own_store tx.actions line) (last_found (last_of (writers txs line)))
+abbrev pub load_source : List Transaction → Transaction → ℕ → Source
+load_source txs tx line = source_before (last_own_store tx.actions line) (committed_source (last_of (writers txs line)))
 
 -- One warp's transaction changes.
 abbrev pub with_current : Ledger → ℕ → Option Transaction → Ledger
 with_current l w tx = record l { current = λ v. cond (v == w) tx (l.current v) }
 
 -- A load or a store joins its warp's transaction.
-abbrev pub with_joined : Ledger → ℕ → (Transaction → Action) → Ledger
-with_joined l w action = with_current l w (option_map (λ tx. with_action tx (action tx)) (l.current w))
+abbrev pub with_joined_action : Ledger → ℕ → (Transaction → Action) → Ledger
+with_joined_action l w action = with_current l w (option_map (λ tx. with_action tx (action tx)) (l.current w))
 
 abbrev pub with_load : Ledger → ℕ → ℕ → ℕ → Ledger
-with_load l w line value = with_joined l w (λ tx. loaded (load_action line value (load_found l.committed tx line)))
+with_load l w line value = with_joined_action l w (λ tx. loaded (load_action line value (load_source l.committed tx line)))
 
 abbrev pub with_store : Ledger → ℕ → ℕ → ℕ → Ledger
-with_store l w line value = with_joined l w (λ tx. stored (log_entry line value))
+with_store l w line value = with_joined_action l w (λ tx. stored (log_entry line value))
 
 -- A transaction starts empty, at its warp's stamp; it ends; it ends as committed.
 abbrev pub with_begun : Ledger → ℕ → ℕ → Ledger
@@ -56,13 +56,8 @@ with_begun l w stamp = with_current l w (Some (record { stamp = stamp; warp = w;
 abbrev pub without_current : Ledger → ℕ → Ledger
 without_current l w = with_current l w None
 
--- What a warp commits: the transaction that it has.
-abbrev pub as_list : Option Transaction → List Transaction
-as_list None = []
-as_list (Some tx) = tx ∷ []
-
 abbrev pub with_committed : Ledger → ℕ → Ledger
-with_committed l w = record (without_current l w) { committed = l.committed ++ as_list (l.current w) }
+with_committed l w = record (without_current l w) { committed = l.committed ++ option_to_list (l.current w) }
 
 -- What the answer `ok` says of the call's own warp, which stands at a stamp. A fetched store joined when it came out.
 abbrev pub ledger_after_done : Ledger → ℕ → ℕ → Op → Ledger
@@ -105,13 +100,13 @@ ledger_after_outcome l w line (Write new) Stored = with_store l w line new
 ledger_after_outcome l w line (Write new) (OutcomeGone cause next) = l
 
 -- One of those that came out of the queue at a call.
-abbrev pub ledger_after_settling : Ledger → Settling → Ledger
-ledger_after_settling l s = ledger_after_outcome l s.warp s.line s.access s.outcome
+abbrev pub ledger_after_settled : Ledger → SettledRequest → Ledger
+ledger_after_settled l s = ledger_after_outcome l s.warp s.line s.access s.outcome
 
 -- A call: first its own answer, then what came out of the queue, in turn.
 unfoldable pub ledger_after_event : Ledger → Event → Ledger
 ledger_after_event l e =
-    fold ledger_after_settling (ledger_after_reply l e.call.warp e.stamp e.call.op e.answer) e.settled
+    fold ledger_after_settled (ledger_after_reply l e.call.warp e.stamp e.call.op e.answer) e.settled
 
 -- Before the first call no warp has a transaction, and none is committed.
 abbrev pub new_ledger : Ledger

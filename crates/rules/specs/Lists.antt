@@ -1,10 +1,10 @@
 -- Words for lists of numbers.
-use Rattle.std.specs.Prelude.{ℕ, zero, suc, ◌+◌, Bool, false, cond, ◌||◌, List, [], ◌∷◌, ◌++◌, Some, None, fold, Option, ◌==◌}
+use Rattle.std.specs.List.{list_any}
+use Rattle.std.specs.Prelude.{ℕ, zero, suc, ◌+◌, Bool, false, cond, List, [], ◌∷◌, ◌++◌, Some, None, fold, Option, ◌==◌}
 
 -- A number stands in a list.
 abbrev pub has : ℕ → List ℕ → Bool
-has n [] = false
-has n (x ∷ xs) = x == n || has n xs
+has n xs = list_any (λ x. x == n) xs
 
 -- The numbers of a list in the order in which each first stands there.
 abbrev pub push_new : List ℕ → ℕ → List ℕ

@@ -1,6 +1,6 @@
 -- A new machine, from a memory, a book and the first stamp of each warp.
-use Rattle.std.specs.Prelude.{ℕ, cond, ◌&&◌, List, [], ◌∷◌, map, length, Some, None, Option, ◌==◌, nat_le, nat_lt}
-use Rattle.std.specs.Option.{option_or}
+use Rattle.std.specs.Prelude.{ℕ, cond, ◌&&◌, List, [], ◌∷◌, map, length, find, Some, None, Option, ◌==◌, nat_le, nat_lt}
+use Rattle.std.specs.Option.{option_map, option_or}
 use Rattle.protocol.specs.Faults.{fault_in_call}
 use Rattle.protocol.specs.Limits.{warp_limit, last_stamp}
 use Rattle.protocol.specs.declared.fault.Fault.{Fault}
@@ -12,13 +12,11 @@ use Rattle.rules.specs.Refusals.{fault_unless}
 
 -- The first of some stamps that lies past the end of the clock.
 abbrev pub first_late : List ℕ → Option ℕ
-first_late [] = None
-first_late (stamp ∷ stamps) = cond (nat_le stamp last_stamp) (first_late stamps) (Some stamp)
+first_late stamps = find (λ stamp. nat_lt last_stamp stamp) stamps
 
 -- Such a stamp refuses the machine.
 abbrev pub late_fault : Option ℕ → Option Fault
-late_fault None = None
-late_fault (Some stamp) = Some (fault_in_call BadStamp stamp)
+late_fault stamp = option_map (fault_in_call BadStamp) stamp
 
 -- A machine that is refused has no warps, so it refuses every call.
 abbrev pub first_warp_rows : Option Fault → List ℕ → List WarpRow

@@ -1,6 +1,6 @@
 -- Refusals: which calls are refused, in the order of their numbers.
 use Rattle.std.specs.Prelude.{ℕ, Bool, cond, ◌&&◌, length, is_some, Some, None, Option, nat_le, nat_lt}
-use Rattle.std.specs.Option.{option_or}
+use Rattle.std.specs.Option.{option_map, option_or}
 use Rattle.protocol.specs.Faults.{fault_in_call}
 use Rattle.protocol.specs.Limits.{line_limit, log_limit, last_stamp}
 use Rattle.protocol.specs.declared.call.Call.{Call}
@@ -49,8 +49,7 @@ phase_refuses (Settled outcome) op = pending_refuses op
 
 -- A refusal, if there is one, as it is told: with the layer that tells it and the offending number.
 abbrev pub refusal_fault : Option Refusal → ℕ → Option Fault
-refusal_fault None number = None
-refusal_fault (Some why) number = Some (fault_in_call why number)
+refusal_fault refusal number = option_map (λ why. fault_in_call why number) refusal
 
 -- A call is refused if a test fails.
 abbrev pub fault_unless : Bool → Refusal → ℕ → Option Fault

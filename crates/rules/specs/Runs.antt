@@ -4,7 +4,7 @@ use Rattle.protocol.specs.declared.answer.Answer.{Answer}
 use Rattle.protocol.specs.declared.call.Call.{Call}
 use Rattle.protocol.specs.declared.fault.Fault.{Fault}
 use Rattle.book.specs.Meaning.{Kind}
-use Rattle.rules.specs.State.{Machine, Settling, warp_row_of}
+use Rattle.rules.specs.State.{Machine, SettledRequest, warp_row_of}
 use Rattle.rules.specs.Queue.{Policy}
 use Rattle.rules.specs.Steps.{step}
 
@@ -13,7 +13,7 @@ pub record Event : Type 0 where
   pub call : Call
   pub stamp : ℕ
   pub answer : Result Answer Fault
-  pub settled : List Settling
+  pub settled : List SettledRequest
 
 -- What calls leave: the machine, and what happened, in turn.
 pub record Run (k : Kind) : Type 0 where
@@ -41,9 +41,9 @@ module _ {k : Kind} where
   run policy m calls = fold (run_with_call policy) (record { machine = m; events = [] }) calls
 
 -- All requests that came out in some events, in turn, and the last of them that was a warp's.
-abbrev pub settlings : List Event → List Settling
-settlings [] = []
-settlings (e ∷ events) = e.settled ++ settlings events
+abbrev pub settled_requests : List Event → List SettledRequest
+settled_requests [] = []
+settled_requests (e ∷ events) = e.settled ++ settled_requests events
 
-abbrev pub last_settling : List Settling → ℕ → Option Settling
-last_settling settled w = fold (λ found (s : Settling). cond (s.warp == w) (Some s) found) None settled
+abbrev pub last_settled_request : List SettledRequest → ℕ → Option SettledRequest
+last_settled_request settled w = fold (λ found (s : SettledRequest). cond (s.warp == w) (Some s) found) None settled

@@ -26,7 +26,7 @@ pub record Machine (k : Kind) : Type 0 where
   pub queue : List Request
 
 -- A request that waited and has come out of the queue, with its outcome.
-pub record Settling : Type 0 where
+pub record SettledRequest : Type 0 where
   pub warp : ℕ
   pub line : ℕ
   pub access : Access

@@ -15,7 +15,7 @@ use Rattle.rules.specs.declared.state.Access.{Access}
 use Rattle.rules.specs.declared.state.Access.TheVariants.{Read, Write}
 use Rattle.rules.specs.declared.state.Phase.{Phase}
 use Rattle.rules.specs.declared.state.Phase.TheVariants.{Idle, Open, Waiting, Settled}
-use Rattle.rules.specs.State.{Machine, Settling, open_row, row_in_phase, warp_row_of, time_of, with_lines, with_warp_row, with_queue}
+use Rattle.rules.specs.State.{Machine, SettledRequest, open_row, row_in_phase, warp_row_of, time_of, with_lines, with_warp_row, with_queue}
 use Rattle.rules.specs.Logs.{LogEntry}
 use Rattle.rules.specs.declared.verdict.Verdict.{Verdict}
 use Rattle.rules.specs.declared.verdict.Verdict.TheVariants.{OwnLine, Gone as VerdictGone, MustWait, GoOn}
@@ -30,7 +30,7 @@ use Rattle.rules.specs.Ending.{after_end, AfterTries}
 pub record Step (k : Kind) : Type 0 where
   pub machine : Machine k
   pub answer : Result Answer Fault
-  pub settled : List Settling
+  pub settled : List SettledRequest
 
 -- Stores written to memory, in order.
 abbrev pub lines_after_stores : Lines → List LogEntry → Lines

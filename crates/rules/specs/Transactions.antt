@@ -5,24 +5,24 @@ use Rattle.rules.specs.Logs.{LogEntry}
 
 -- Whose store a load found: its own transaction's, that of a committed transaction, by its name, or none: the line had
 -- its value from the first memory. The name of a committed transaction is its place among the commits, from 0.
-pub data Found : Type 0 where
-  own : Found
-  by : ℕ → Found
-  at_first : Found
+pub data Source : Type 0 where
+  own_store : Source
+  committed_store : ℕ → Source
+  initial_memory : Source
 
 -- A load that a transaction did: its line, the value that it got, and whose store it found.
 pub record LoadAction : Type 0 where
   pub line : ℕ
   pub value : ℕ
-  pub found : Found
+  pub source : Source
 
 -- What a transaction did: a load, or a store.
 pub data Action : Type 0 where
   loaded : LoadAction → Action
   stored : LogEntry → Action
 
-abbrev pub load_action : ℕ → ℕ → Found → LoadAction
-load_action line value found = record { line = line; value = value; found = found }
+abbrev pub load_action : ℕ → ℕ → Source → LoadAction
+load_action line value source = record { line = line; value = value; source = source }
 
 -- A transaction: its warp's stamp at its begin, its warp, and what it did, the latest first.
 pub record Transaction : Type 0 where
@@ -70,6 +70,6 @@ abbrev pub writers : List Transaction → ℕ → List ℕ
 writers txs line = filter (λ name. is_written (transaction_named txs name).actions line) (numbers_below (length txs))
 
 -- What a load finds where others wrote: the last writer, or what the first memory had.
-abbrev pub last_found : Option ℕ → Found
-last_found None = at_first
-last_found (Some name) = by name
+abbrev pub committed_source : Option ℕ → Source
+committed_source None = initial_memory
+committed_source (Some name) = committed_store name

@@ -3,8 +3,8 @@
 
 ghost use Rattle.book.specs.Meaning.{Kind};
 ghost use Rattle.rules.specs.Examples.{ChainOfThree, LostUpdateUnexplained};
-ghost use Rattle.rules.specs.Examples.{ReaderThenWriter, SameStamp, SettledLoadFound};
-ghost use Rattle.rules.specs.Examples.{StampKeptUntilFetched, StampTakenEarly};
+ghost use Rattle.rules.specs.Examples.{ReaderThenWriter, SameStamp, SettledLoadSeesCommit};
+ghost use Rattle.rules.specs.Examples.{StampKeptUntilFetched, EarlyStampBreaksWaits};
 ghost use Rattle.rules.specs.Examples.{TwoWriters, WriterThenReader};
 ghost use Rattle.rules.specs.Laws.{LawOfAccounts, LawOfExplanation, LawOfFetches, LawOfTables, LawOfWaits};
 ghost use Rattle.rules.specs.Laws.{ProductCovers, ProductLawful, RefusalsChangeNothing};
@@ -71,9 +71,9 @@ pub fn definitions_tell()
     ensures reader { WriterThenReader }
     ensures writer { ReaderThenWriter }
     ensures stamps { SameStamp }
-    ensures settled { SettledLoadFound }
+    ensures settled { SettledLoadSeesCommit }
     ensures chain { ChainOfThree }
     ensures kept { StampKeptUntilFetched }
-    ensures early { StampTakenEarly }
+    ensures early { EarlyStampBreaksWaits }
     ensures lost { LostUpdateUnexplained }
 {}

@@ -1,9 +1,13 @@
 -- What a book's promised meanings give the history of a run, call by call of the book.
-use Rattle.std.proofs.Common.{◌≡◌, ℕ, ◌+◌, ◌<◌, ◌≤◌, Bool, true, false, cond, not, ◌&&◌, ◌||◌, eqb, ltb, leb, List, [], ◌∷◌, None, fold, sym, refl, ap, ◌∙◌, subst, ⊎_elim, arith}
-use Rattle.std.proofs.lemmas.Bool.{both_ways, eqb-true, eq-eqb, cases_eq, ltb-true, lt-ltb, le-leb, and_from, or_parts, not_from_false}
+use Rattle.std.proofs.Common.{◌≡◌, ℕ, ◌+◌, ◌<◌, ◌≤◌, Bool, true, false, cond, not, ◌&&◌, ◌||◌, eqb}
+use Rattle.std.proofs.Common.{ltb, leb, List, [], ◌∷◌, None, fold, sym, refl, ap, ◌∙◌, subst}
+use Rattle.std.proofs.Common.{⊎_elim, arith}
+use Rattle.std.proofs.lemmas.Bool.{both_ways, eqb-true, eq-eqb, cases_eq, ltb-true, lt-ltb, le-leb}
+use Rattle.std.proofs.lemmas.Bool.{and_from, or_parts, not_from_false}
 use Rattle.std.proofs.lemmas.Bool.Decides.{nat_tests}
 use Rattle.protocol.specs.Limits.{line_limit, warp_limit, last_stamp}
-use Rattle.book.specs.Meaning.{Kind, Keeps, is_reserved, can_note, can_reserve, can_add, can_release, state_after_note, state_after_reserve, state_after_add}
+use Rattle.book.specs.Meaning.{Kind, Keeps, is_reserved, can_note, can_reserve, can_add}
+use Rattle.book.specs.Meaning.{can_release, state_after_note, state_after_reserve, state_after_add}
 use Rattle.book.specs.Meaning.{state_after_release}
 use Rattle.book.specs.Time.{Time, earlier}
 use Rattle.rules.specs.Lists.{has}

@@ -1,5 +1,7 @@
 -- Every call keeps the invariant of a run, refused ones too, and so does every run of a new machine.
-use Rattle.std.proofs.Common.{◌≡◌, ℕ, zero, suc, ◌<◌, ◌≤◌, Bool, true, false, cond, ◌&&◌, eqb, ltb, leb, ◌⊎◌, List, [], ◌∷◌, map, length, get_or, is_some, Some, None, fold, Option, sym, refl, ap, ◌∙◌, subst, arith}
+use Rattle.std.proofs.Common.{◌≡◌, ℕ, zero, suc, ◌<◌, ◌≤◌, Bool, true, false, cond, ◌&&◌, eqb, ltb}
+use Rattle.std.proofs.Common.{leb, ◌⊎◌, List, [], ◌∷◌, map, length, get_or, is_some, Some, None}
+use Rattle.std.proofs.Common.{fold, Option, sym, refl, ap, ◌∙◌, subst, arith}
 use Rattle.std.proofs.lemmas.List.{length-map}
 use Rattle.std.proofs.lemmas.List.Sums.{fold_push}
 use Rattle.std.proofs.lemmas.Bool.{both_ways, ltb-true, leb-true, eqb-true, le-ltb, and_parts}
@@ -26,21 +28,26 @@ use Rattle.rules.specs.declared.state.Request.{Request}
 use Rattle.rules.specs.Lists.{has}
 use Rattle.rules.specs.State.{Machine, idle_row, is_idle, is_waiting, warp_row_of, time_of}
 use Rattle.rules.specs.declared.verdict.Verdict.{Verdict}
-use Rattle.rules.specs.declared.verdict.Verdict.TheVariants.{OwnLine, Gone as VerdictGone, MustWait, GoOn}
+use Rattle.rules.specs.declared.verdict.Verdict.TheVariants.{OwnLine, Gone as VerdictGone, MustWait}
+use Rattle.rules.specs.declared.verdict.Verdict.TheVariants.{GoOn}
 use Rattle.rules.specs.Access.{line_state, decide}
 use Rattle.rules.specs.Queue.{Policy, request_of, is_full}
-use Rattle.rules.specs.Refusals.{phase_refuses, refusal_fault, fault_unless, has_line, number_fault, fault_of}
+use Rattle.rules.specs.Refusals.{phase_refuses, refusal_fault, fault_unless, has_line, number_fault}
+use Rattle.rules.specs.Refusals.{fault_of}
 use Rattle.rules.specs.Serving.{served_on_free_line, served_on_own_line}
-use Rattle.rules.specs.Steps.{ended_step, Step, with_log_written, step_by_verdict, access_step, verdict_at, fetched_step, fetch_step, accepted_step}
+use Rattle.rules.specs.Steps.{ended_step, Step, with_log_written, step_by_verdict, access_step}
+use Rattle.rules.specs.Steps.{verdict_at, fetched_step, fetch_step, accepted_step}
 use Rattle.rules.specs.Steps.{checked_step, step}
 use Rattle.rules.specs.Runs.{Run, event_of, run_with_call}
 use Rattle.rules.specs.Ending.{after_end}
 use Rattle.rules.specs.Making.{making_fault, first_warp_rows, new_machine}
 use Rattle.rules.specs.Transactions.{Transaction, is_written, transaction_named}
-use Rattle.rules.specs.Ledger.{without_current, with_committed, Ledger, ledger_after_settled, ledger_after_reply, ledger_after_event, new_ledger, ledger_of}
+use Rattle.rules.specs.Ledger.{without_current, with_committed, Ledger, ledger_after_settled}
+use Rattle.rules.specs.Ledger.{ledger_after_reply, ledger_after_event, new_ledger, ledger_of}
 use Rattle.rules.proofs.Verdicts.{Means, decide_means, room_means}
 use Rattle.rules.proofs.Invariant.{Inv}
-use Rattle.rules.proofs.OneWarp.{Room, serves_keeps, serves_own_keeps, waits_keeps, phase_keeps, ends_keep}
+use Rattle.rules.proofs.OneWarp.{Room, serves_keeps, serves_own_keeps, waits_keeps, phase_keeps}
+use Rattle.rules.proofs.OneWarp.{ends_keep}
 use Rattle.rules.proofs.OneWarp.{commits_keep, begin_keeps}
 use Rattle.rules.proofs.Tries.{has_transaction, ends_keeps}
 

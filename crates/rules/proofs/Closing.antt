@@ -1,5 +1,7 @@
 -- A transaction commits: what holds between transactions, book and memory still holds with one commit more.
-use Rattle.std.proofs.Common.{◌≡◌, ℕ, suc, ◌<◌, ◌≤◌, Bool, true, false, cond, eqb, ◌⊎◌, List, [], ◌∷◌, ◌++◌, length, is_some, Some, None, filter, Option, sym, refl, ap, ◌∙◌, subst, inl, inr, arith}
+use Rattle.std.proofs.Common.{◌≡◌, ℕ, suc, ◌<◌, ◌≤◌, Bool, true, false, cond, eqb, ◌⊎◌, List, []}
+use Rattle.std.proofs.Common.{◌∷◌, ◌++◌, length, is_some, Some, None, filter, Option, sym, refl, ap}
+use Rattle.std.proofs.Common.{◌∙◌, subst, inl, inr, arith}
 use Rattle.std.proofs.lemmas.Bool.{both_ways, cases_lt, ltb-true}
 use Rattle.std.proofs.lemmas.List.{get_or_append_left, get_or_at, length_push, append-nil}
 use Rattle.std.specs.Option.{option_map}
@@ -8,11 +10,14 @@ use Rattle.memory.specs.Lines.{Lines}
 use Rattle.book.specs.Meaning.{Kind}
 use Rattle.rules.specs.Lists.{has, last_of, numbers_below}
 use Rattle.rules.specs.Steps.{lines_after_stores}
-use Rattle.rules.specs.Transactions.{Source, own_store, committed_store, initial_memory, Transaction, no_transaction, last_own_store, is_written}
-use Rattle.rules.specs.Transactions.{transaction_stores, transaction_named, writers, committed_source}
+use Rattle.rules.specs.Transactions.{Source, own_store, committed_store, initial_memory}
+use Rattle.rules.specs.Transactions.{Transaction, no_transaction, last_own_store, is_written}
+use Rattle.rules.specs.Transactions.{transaction_stores, transaction_named, writers}
+use Rattle.rules.specs.Transactions.{committed_source}
 use Rattle.rules.proofs.ListFacts.{kept_append, has_upto, has_of_kept, last_push, last_stands}
 use Rattle.rules.proofs.Replay.{over, written_at, found_value, writer}
-use Rattle.rules.proofs.Serial.{key, key_of, Earlier, seen, stamp_at, key_at, Names, Right, writer_below}
+use Rattle.rules.proofs.Serial.{key, key_of, Earlier, seen, stamp_at, key_at, Names, Right}
+use Rattle.rules.proofs.Serial.{writer_below}
 use Rattle.rules.proofs.History.{Holding, Holder, Core, ReadNow}
 
 kept_same :

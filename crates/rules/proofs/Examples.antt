@@ -1,5 +1,7 @@
 -- The examples, by computing the runs.
-use Rattle.std.proofs.Common.{◌≡◌, ℕ, zero, suc, ◌<◌, ◌≤◌, Bool, true, false, eqb, List, [], ◌∷◌, length, Some, None, Option, sym, refl, ap, ◌∙◌, subst, arith, lit<, lit≤}
+use Rattle.std.proofs.Common.{◌≡◌, ℕ, zero, suc, ◌<◌, ◌≤◌, Bool, true, false, eqb, List, [], ◌∷◌}
+use Rattle.std.proofs.Common.{length, Some, None, Option, sym, refl, ap, ◌∙◌, subst, arith, lit<}
+use Rattle.std.proofs.Common.{lit≤}
 use Rattle.std.proofs.lemmas.Bool.{both_ways, eqb-true, ne_eqb}
 use Rattle.std.proofs.lemmas.Bool.Decides.{nat_tests}
 use Rattle.memory.specs.Lines.{Lines, lines_with, word_lines}
@@ -10,17 +12,23 @@ use Rattle.rules.specs.Logs.{log_entry}
 use Rattle.rules.specs.State.{Machine, warp_row_of}
 use Rattle.rules.specs.Queue.{request_of}
 use Rattle.rules.specs.Serving.{served_on_free_line}
-use Rattle.rules.specs.Ending.{after_withdrawal, after_settling, after_try, after_turn_with, after_turns, without_lines, after_giving_up, after_end}
+use Rattle.rules.specs.Ending.{after_withdrawal, after_settling, after_try, after_turn_with}
+use Rattle.rules.specs.Ending.{after_turns, without_lines, after_giving_up, after_end}
 use Rattle.rules.specs.Steps.{step_by_verdict, with_request_queued, fetched_step}
 use Rattle.rules.specs.Runs.{run_with_call}
-use Rattle.rules.specs.Transactions.{committed_store, initial_memory, loaded, stored, load_action, Transaction, is_written}
+use Rattle.rules.specs.Transactions.{committed_store, initial_memory, loaded, stored, load_action}
+use Rattle.rules.specs.Transactions.{Transaction, is_written}
 use Rattle.rules.specs.Ledger.{Ledger, ledger_of, ledger_after_event}
 use Rattle.rules.specs.Account.{LoadResult, Account, account_after, serial_account, account_of}
 use Rattle.rules.specs.Laws.{IsHolder, is_waiting_now, WaitsFor, Leads, free, onward}
-use Rattle.rules.specs.Examples.{Sample, sample_run, sample_ledger, sample_commits, TransactionsAgreeInOneOrder, RunAgreesInOneOrder, two_writers}
-use Rattle.rules.specs.Examples.{TwoWriters, writer_reader, WriterThenReader, reader_writer, ReaderThenWriter}
-use Rattle.rules.specs.Examples.{same_stamp, SameStamp, SettledLoadSeesCommit, chain, ChainOfThree, lost_holder, wrong_run}
-use Rattle.rules.specs.Examples.{StampKeptUntilFetched, EarlyStampBreaksWaits, LostUpdateUnexplained}
+use Rattle.rules.specs.Examples.{Sample, sample_run, sample_ledger, sample_commits}
+use Rattle.rules.specs.Examples.{TransactionsAgreeInOneOrder, RunAgreesInOneOrder, two_writers}
+use Rattle.rules.specs.Examples.{TwoWriters, writer_reader, WriterThenReader, reader_writer}
+use Rattle.rules.specs.Examples.{ReaderThenWriter}
+use Rattle.rules.specs.Examples.{same_stamp, SameStamp, SettledLoadSeesCommit, chain, ChainOfThree}
+use Rattle.rules.specs.Examples.{lost_holder, wrong_run}
+use Rattle.rules.specs.Examples.{StampKeptUntilFetched, EarlyStampBreaksWaits}
+use Rattle.rules.specs.Examples.{LostUpdateUnexplained}
 use Rattle.rules.proofs.Replay.{writers_alone}
 
 -- Two names.

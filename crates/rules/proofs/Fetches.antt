@@ -1,6 +1,8 @@
 -- What a fetch answers is what joined the account at the call that let its warp's request come out: by an invariant of
 -- phases, transactions and requests that came out, which needs nothing of the book.
-use Rattle.std.proofs.Common.{◌≡◌, ◌≢◌, ℕ, zero, suc, ◌≤◌, cond, eqb, ◌⊎◌, List, [], ◌∷◌, ◌++◌, map, length, set, Ok, Some, None, fold, Option, sym, refl, ap, ◌∙◌, subst, inl, inr, ⊎_elim, arith, length-set, append_assoc}
+use Rattle.std.proofs.Common.{◌≡◌, ◌≢◌, ℕ, zero, suc, ◌≤◌, cond, eqb, ◌⊎◌, List, [], ◌∷◌, ◌++◌, map}
+use Rattle.std.proofs.Common.{length, set, Ok, Some, None, fold, Option, sym, refl, ap, ◌∙◌, subst}
+use Rattle.std.proofs.Common.{inl, inr, ⊎_elim, arith, length-set, append_assoc}
 use Rattle.std.proofs.lemmas.Bool.{ne_eqb, eq-eqb, cases_eq, cases_lt}
 use Rattle.std.proofs.lemmas.List.{get_or-set_same, get_or-set_other, get_or_past, append-nil}
 use Rattle.std.proofs.lemmas.List.Sums.{fold_push}
@@ -22,22 +24,29 @@ use Rattle.rules.specs.declared.state.Access.TheVariants.{Read, Write}
 use Rattle.rules.specs.declared.state.Phase.{Phase}
 use Rattle.rules.specs.declared.state.Phase.TheVariants.{Idle, Open, Waiting, Settled}
 use Rattle.rules.specs.Logs.{log_entry, logged_lines}
-use Rattle.rules.specs.State.{WarpRow, Machine, SettledRequest, idle_row, open_row, is_waiting, row_in_phase, warp_row_at, warp_row_of}
+use Rattle.rules.specs.State.{WarpRow, Machine, SettledRequest, idle_row, open_row, is_waiting}
+use Rattle.rules.specs.State.{row_in_phase, warp_row_at, warp_row_of}
 use Rattle.rules.specs.State.{time_of, with_warp_row}
 use Rattle.rules.specs.declared.verdict.Verdict.{Verdict}
-use Rattle.rules.specs.declared.verdict.Verdict.TheVariants.{OwnLine, Gone as VerdictGone, MustWait, GoOn}
+use Rattle.rules.specs.declared.verdict.Verdict.TheVariants.{OwnLine, Gone as VerdictGone, MustWait}
+use Rattle.rules.specs.declared.verdict.Verdict.TheVariants.{GoOn}
 use Rattle.rules.specs.Access.{line_state, retried}
 use Rattle.rules.specs.Queue.{Policy, request_of, access_at, pending_access}
 use Rattle.rules.specs.Refusals.{phase_refuses, refusal_fault, fault_of}
 use Rattle.rules.specs.Serving.{served_on_free_line, served_on_own_line}
-use Rattle.rules.specs.Ending.{AfterTries, settled_request, after_withdrawal, after_settling, after_try, after_turn_with, after_turn, after_turns, without_lines}
+use Rattle.rules.specs.Ending.{AfterTries, settled_request, after_withdrawal, after_settling}
+use Rattle.rules.specs.Ending.{after_try, after_turn_with, after_turn, after_turns, without_lines}
 use Rattle.rules.specs.Ending.{after_giving_up, after_end}
-use Rattle.rules.specs.Steps.{Step, with_request_queued, step_by_verdict, verdict_at, fetched_step, fetch_step, accepted_step, checked_step, step}
+use Rattle.rules.specs.Steps.{Step, with_request_queued, step_by_verdict, verdict_at, fetched_step}
+use Rattle.rules.specs.Steps.{fetch_step, accepted_step, checked_step, step}
 use Rattle.rules.specs.Steps.{with_log_written}
 use Rattle.rules.specs.Making.{new_machine, first_warp_rows, making_fault}
-use Rattle.rules.specs.Runs.{Event, Run, event_of, run_with_call, settled_requests, last_settled_request}
+use Rattle.rules.specs.Runs.{Event, Run, event_of, run_with_call, settled_requests}
+use Rattle.rules.specs.Runs.{last_settled_request}
 use Rattle.rules.specs.Transactions.{Action, loaded, stored, load_action, Transaction}
-use Rattle.rules.specs.Ledger.{Ledger, with_action, load_source, with_current, with_joined_action, with_begun, without_current, with_committed, ledger_after_reply, ledger_after_outcome, ledger_after_settled}
+use Rattle.rules.specs.Ledger.{Ledger, with_action, load_source, with_current, with_joined_action}
+use Rattle.rules.specs.Ledger.{with_begun, without_current, with_committed, ledger_after_reply}
+use Rattle.rules.specs.Ledger.{ledger_after_outcome, ledger_after_settled}
 use Rattle.rules.specs.Ledger.{ledger_after_event, new_ledger, ledger_of}
 use Rattle.rules.specs.Laws.{HasJoined, FetchReturns, FetchesReturn, LawOfFetches}
 use Rattle.rules.proofs.ListFacts.{folded_append}

@@ -1,5 +1,7 @@
 -- What holds between the transactions of a run, the book and the memory, and how each small move keeps it.
-use Rattle.std.proofs.Common.{◌≡◌, ℕ, ◌<◌, ◌≤◌, Bool, true, false, cond, ◌&&◌, eqb, ◌⊎◌, List, length, is_some, Some, None, Option, sym, refl, ap, ◌∙◌, subst, inl, inr, arith}
+use Rattle.std.proofs.Common.{◌≡◌, ℕ, ◌<◌, ◌≤◌, Bool, true, false, cond, ◌&&◌, eqb, ◌⊎◌, List}
+use Rattle.std.proofs.Common.{length, is_some, Some, None, Option, sym, refl, ap, ◌∙◌, subst, inl}
+use Rattle.std.proofs.Common.{inr, arith}
 use Rattle.std.proofs.lemmas.Bool.{both_ways, eqb-true, eqb-false, eq-eqb, cases_eq}
 use Rattle.std.proofs.lemmas.Bool.Decides.{nat_tests}
 use Rattle.protocol.specs.Limits.{line_limit}
@@ -7,7 +9,8 @@ use Rattle.memory.specs.Lines.{Lines}
 use Rattle.book.specs.Meaning.{Kind}
 use Rattle.book.specs.Time.{Time, earlier}
 use Rattle.rules.specs.Lists.{has, last_of}
-use Rattle.rules.specs.Transactions.{Source, Transaction, transaction_named, writers, committed_source}
+use Rattle.rules.specs.Transactions.{Source, Transaction, transaction_named, writers}
+use Rattle.rules.specs.Transactions.{committed_source}
 use Rattle.rules.proofs.Replay.{found_value, writer, EachLoad}
 use Rattle.rules.proofs.Serial.{key, stamp_at, Right}
 

@@ -1,5 +1,7 @@
 -- The machine's account, move by move: begin, a load or a store that joins, an end, a commit.
-use Rattle.std.proofs.Common.{◌≡◌, ℕ, suc, ◌<◌, ◌≤◌, Bool, true, false, cond, ◌&&◌, eqb, ◌⊎◌, List, [], ◌∷◌, ◌++◌, length, is_some, Some, None, Option, sym, refl, ap, ◌∙◌, subst, inl, inr, arith}
+use Rattle.std.proofs.Common.{◌≡◌, ℕ, suc, ◌<◌, ◌≤◌, Bool, true, false, cond, ◌&&◌, eqb, ◌⊎◌, List}
+use Rattle.std.proofs.Common.{[], ◌∷◌, ◌++◌, length, is_some, Some, None, Option, sym, refl, ap}
+use Rattle.std.proofs.Common.{◌∙◌, subst, inl, inr, arith}
 use mathlib.Core.Path.{fun_ext}
 use Rattle.std.proofs.lemmas.Bool.{lt-ltb, eqb-true, eqb-false, cases_lt, cases_order}
 use Rattle.std.proofs.lemmas.List.{length_push}
@@ -11,16 +13,21 @@ use Rattle.book.specs.Time.{earlier}
 use Rattle.rules.specs.Lists.{has, last_of, numbers_below}
 use Rattle.rules.specs.Logs.{log_entry}
 use Rattle.rules.specs.Steps.{lines_after_stores}
-use Rattle.rules.specs.Transactions.{Source, Action, loaded, stored, load_action, Transaction, last_own_store, is_written}
+use Rattle.rules.specs.Transactions.{Source, Action, loaded, stored, load_action, Transaction}
+use Rattle.rules.specs.Transactions.{last_own_store, is_written}
 use Rattle.rules.specs.Transactions.{transaction_stores, transaction_named}
 use Rattle.rules.specs.Transactions.{writers, committed_source}
-use Rattle.rules.specs.Ledger.{Ledger, source_before, load_source, with_action, with_current, with_load, with_store, with_begun}
+use Rattle.rules.specs.Ledger.{Ledger, own_or_other_source, load_source, with_action, with_current}
+use Rattle.rules.specs.Ledger.{with_load, with_store, with_begun}
 use Rattle.rules.specs.Ledger.{without_current, with_committed}
-use Rattle.rules.proofs.ListFacts.{eqb_sym, kept_has, has_upto, kept_upto_rises, last_some, last_tops}
+use Rattle.rules.proofs.ListFacts.{eqb_sym, kept_has, has_upto, kept_upto_rises, last_some}
+use Rattle.rules.proofs.ListFacts.{last_tops}
 use Rattle.rules.proofs.Replay.{AtLoad, each_weaker, writer}
 use Rattle.rules.proofs.Serial.{key, key_of, Earlier, seen, writer_below}
-use Rattle.rules.proofs.History.{Holding, Core, ReadNow, Reads, Grown, Taken, LetGo, with_hold, without_holds}
-use Rattle.rules.proofs.History.{core_grown, read_grown, core_taken, read_taken, core_let_go, read_let_go, still_held}
+use Rattle.rules.proofs.History.{Holding, Core, ReadNow, Reads, Grown, Taken, LetGo, with_hold}
+use Rattle.rules.proofs.History.{without_holds}
+use Rattle.rules.proofs.History.{core_grown, read_grown, core_taken, read_taken, core_let_go}
+use Rattle.rules.proofs.History.{read_let_go, still_held}
 use Rattle.rules.proofs.History.{one_holder}
 use Rattle.rules.proofs.Closing.{Ready, core_more, read_more, named_old, named_new, names_last}
 
@@ -249,7 +256,7 @@ module _ (k : Kind) (first : Lines) where
                 (λ o.
                 AtLoad
                 (ReadNow k first l.committed (hold l) s' (length l.committed) tx.stamp tx.warp)
-                line v (source_before o (committed_source (last_of (writers l.committed line)))) o)
+                line v (own_or_other_source o (committed_source (last_of (writers l.committed line)))) o)
                 (sym e) (refl, refl),
             r,
           )))
@@ -268,7 +275,7 @@ module _ (k : Kind) (first : Lines) where
                 (λ o.
                 AtLoad
                 (ReadNow k first l.committed (hold l) s' (length l.committed) tx.stamp tx.warp)
-                line v (source_before o (committed_source (last_of (writers l.committed line)))) o)
+                line v (own_or_other_source o (committed_source (last_of (writers l.committed line)))) o)
                 (sym e) reading,
             r,
           )))

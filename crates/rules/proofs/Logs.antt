@@ -1,5 +1,7 @@
 -- Logs, rows and the queue, as lists.
-use Rattle.std.proofs.Common.{◌≡◌, ℕ, ◌<◌, Bool, true, false, cond, not, ◌||◌, eqb, List, [], ◌∷◌, ◌++◌, length, is_some, Some, None, fold, Option, sym, refl, ap, ◌∙◌, subst, ⊎_elim}
+use Rattle.std.proofs.Common.{◌≡◌, ℕ, ◌<◌, Bool, true, false, cond, not, ◌||◌, eqb, List, [], ◌∷◌}
+use Rattle.std.proofs.Common.{◌++◌, length, is_some, Some, None, fold, Option, sym, refl, ap, ◌∙◌}
+use Rattle.std.proofs.Common.{subst, ⊎_elim}
 use Rattle.std.proofs.lemmas.List.{get_or-set_same, get_or-set_other, get_or_past, map-append}
 use Rattle.std.proofs.lemmas.List.Sums.{fold_push}
 use Rattle.std.proofs.lemmas.Bool.{both_ways, eqb-true, ne_eqb, cases_Bool, cases_lt, or_left}
@@ -8,9 +10,11 @@ use Rattle.rules.specs.declared.state.Phase.TheVariants.{Idle, Open, Waiting, Se
 use Rattle.rules.specs.declared.state.Request.{Request}
 use Rattle.rules.specs.Lists.{has, push_new}
 use Rattle.rules.specs.Logs.{LogEntry, last_stored, entry_lines, logged_lines}
-use Rattle.rules.specs.State.{WarpRow, Machine, idle_row, is_idle, is_waiting, warp_row_of, with_warp_row}
+use Rattle.rules.specs.State.{WarpRow, Machine, idle_row, is_idle, is_waiting, warp_row_of}
+use Rattle.rules.specs.State.{with_warp_row}
 use Rattle.rules.specs.Queue.{request_of, queue_without}
-use Rattle.rules.specs.Transactions.{Action, loaded, stored, last_own_store, is_written, transaction_stores}
+use Rattle.rules.specs.Transactions.{Action, loaded, stored, last_own_store, is_written}
+use Rattle.rules.specs.Transactions.{transaction_stores}
 use Rattle.rules.proofs.ListFacts.{eqb_same, has_append}
 
 -- The last value logged is the transaction's own.

@@ -1,10 +1,14 @@
 -- Each small move of the machine keeps the invariant of a run.
-use Rattle.std.proofs.Common.{◌≡◌, ℕ, suc, ◌<◌, ◌≤◌, Bool, true, false, cond, ◌&&◌, eqb, ltb, ◌⊎◌, List, [], ◌∷◌, ◌++◌, length, get_or, set, is_some, Some, None, fold, Option, unwrap_or, sym, refl, ap, ◌∙◌, subst, inl, inr, ⊎_elim, arith, length-set}
+use Rattle.std.proofs.Common.{◌≡◌, ℕ, suc, ◌<◌, ◌≤◌, Bool, true, false, cond, ◌&&◌, eqb, ltb, ◌⊎◌}
+use Rattle.std.proofs.Common.{List, [], ◌∷◌, ◌++◌, length, get_or, set, is_some, Some, None, fold}
+use Rattle.std.proofs.Common.{Option, unwrap_or, sym, refl, ap, ◌∙◌, subst, inl, inr, ⊎_elim, arith}
+use Rattle.std.proofs.Common.{length-set}
 use Rattle.std.proofs.lemmas.Bool.{ne_eqb, and_from, not_from_false, lt-ltb, both_ways, cases_eq}
 use Rattle.protocol.specs.Limits.{line_limit, log_limit, last_stamp}
 use Rattle.protocol.specs.declared.answer.Outcome.{Outcome}
 use Rattle.memory.specs.Lines.{Lines}
-use Rattle.book.specs.Meaning.{is_reserved, can_add, Kind, Keeps, state_after_note, state_after_reserve, state_after_add, state_after_release}
+use Rattle.book.specs.Meaning.{is_reserved, can_add, Kind, Keeps, state_after_note}
+use Rattle.book.specs.Meaning.{state_after_reserve, state_after_add, state_after_release}
 use Rattle.book.specs.Time.{earlier}
 use Rattle.rules.specs.declared.state.Access.{Access}
 use Rattle.rules.specs.declared.state.Access.TheVariants.{Read, Write}
@@ -12,25 +16,32 @@ use Rattle.rules.specs.declared.state.Phase.{Phase}
 use Rattle.rules.specs.declared.state.Phase.TheVariants.{Idle, Open, Waiting, Settled}
 use Rattle.rules.specs.Lists.{has}
 use Rattle.rules.specs.Logs.{log_entry, last_stored, logged_lines}
-use Rattle.rules.specs.State.{WarpRow, Machine, idle_row, open_row, is_idle, is_waiting, row_in_phase, row_with_store, warp_row_of, time_of}
+use Rattle.rules.specs.State.{WarpRow, Machine, idle_row, open_row, is_idle, is_waiting}
+use Rattle.rules.specs.State.{row_in_phase, row_with_store, warp_row_of, time_of}
 use Rattle.rules.specs.State.{with_lines, with_book, with_warp_row}
 use Rattle.rules.specs.Access.{line_state}
 use Rattle.rules.specs.Serving.{served_on_free_line, served_on_own_line, memory_value}
 use Rattle.rules.specs.Ending.{after_withdrawal, after_settling, without_lines}
 use Rattle.rules.specs.Steps.{with_request_queued, with_log_written, lines_after_stores}
-use Rattle.rules.specs.Transactions.{loaded, stored, load_action, Transaction, last_own_store, is_written, transaction_stores}
+use Rattle.rules.specs.Transactions.{loaded, stored, load_action, Transaction, last_own_store}
+use Rattle.rules.specs.Transactions.{is_written, transaction_stores}
 use Rattle.rules.specs.Transactions.{store_count}
-use Rattle.rules.specs.Ledger.{Ledger, load_source, with_current, with_begun, without_current, with_committed, ledger_after_outcome}
+use Rattle.rules.specs.Ledger.{Ledger, load_source, with_current, with_begun, without_current}
+use Rattle.rules.specs.Ledger.{with_committed, ledger_after_outcome}
 use Rattle.rules.proofs.History.{Holding, LetGo, without_holds}
-use Rattle.rules.proofs.Ledgers.{hold_in, hold, hold_writes, History, begun, ended, load_own, load_other, store_own}
+use Rattle.rules.proofs.Ledgers.{hold_in, hold, hold_writes, History, begun, ended, load_own}
+use Rattle.rules.proofs.Ledgers.{load_other, store_own}
 use Rattle.rules.proofs.Ledgers.{store_new, nothing_left, committed}
 use Rattle.rules.proofs.BookMoves.{after_note, after_add, after_take, Freed, after_release}
-use Rattle.rules.proofs.Tallies.{never_stored, once_stored, stored_at_most, Tallied, tally_load, tally_store}
+use Rattle.rules.proofs.Tallies.{never_stored, once_stored, stored_at_most, Tallied, tally_load}
+use Rattle.rules.proofs.Tallies.{tally_store}
 use Rattle.rules.proofs.Tallies.{tally_let_go, tally_begin}
 use Rattle.rules.proofs.Verdicts.{Goes, Stalls}
-use Rattle.rules.proofs.Logs.{logged_own, has_logged, warp_row_put, warp_row_kept, request_push, request_mine, request_left}
+use Rattle.rules.proofs.Logs.{logged_own, has_logged, warp_row_put, warp_row_kept, request_push}
+use Rattle.rules.proofs.Logs.{request_mine, request_left}
 use Rattle.rules.proofs.Logs.{request_gone}
-use Rattle.rules.proofs.Invariant.{Running, Matches, Blocked, Inv, one_warp_row, current_mine, current_other, holds_line}
+use Rattle.rules.proofs.Invariant.{Running, Matches, Blocked, Inv, one_warp_row, current_mine}
+use Rattle.rules.proofs.Invariant.{current_other, holds_line}
 use Rattle.rules.proofs.Invariant.{running, warp_is, warp_low, in_machine, does}
 
 some_value : (o : Option ℕ) → is_some o ≡ true → o ≡ Some (unwrap_or o 0)

@@ -1,5 +1,6 @@
 -- The product's own order of tries covers every request that waits for the line.
-use Rattle.std.proofs.Common.{◌≡◌, ℕ, Bool, true, false, cond, ◌||◌, eqb, List, [], ◌∷◌, map, Some, fold, refl, ap, ◌∙◌}
+use Rattle.std.proofs.Common.{◌≡◌, ℕ, Bool, true, false, cond, ◌||◌, eqb, List, [], ◌∷◌, map, Some}
+use Rattle.std.proofs.Common.{fold, refl, ap, ◌∙◌}
 use Rattle.std.proofs.lemmas.Bool.{or_left, or_right}
 use Rattle.book.specs.Meaning.{Kind}
 use Rattle.rules.specs.declared.state.Request.{Request}

@@ -1,5 +1,6 @@
 -- What the other account comes to: its writers, its values and its loads, in any order.
-use Rattle.std.proofs.Common.{◌≡◌, ℕ, Bool, true, false, cond, ◌||◌, eqb, List, [], ◌∷◌, ◌++◌, is_some, Some, None, fold, filter, Option, sym, refl, ap, ◌∙◌, subst}
+use Rattle.std.proofs.Common.{◌≡◌, ℕ, Bool, true, false, cond, ◌||◌, eqb, List, [], ◌∷◌, ◌++◌}
+use Rattle.std.proofs.Common.{is_some, Some, None, fold, filter, Option, sym, refl, ap, ◌∙◌, subst}
 use Rattle.std.proofs.lemmas.List.Sums.{fold_push}
 use Rattle.std.proofs.lemmas.Bool.{both_ways, eqb-true, or_parts, or_left, or_right}
 use Rattle.std.proofs.lemmas.List.{append_assoc, append-nil}
@@ -8,9 +9,12 @@ use Rattle.memory.specs.Lines.{Lines, lines_with}
 use Rattle.rules.specs.Lists.{has, last_of}
 use Rattle.rules.specs.Logs.{LogEntry}
 use Rattle.rules.specs.Steps.{lines_after_stores}
-use Rattle.rules.specs.Transactions.{Source, own_store, committed_store, initial_memory, Action, loaded, stored, Transaction, last_own_store, is_written}
-use Rattle.rules.specs.Transactions.{is_read, transaction_stores, transaction_named, committed_source}
-use Rattle.rules.specs.Account.{LoadResult, Account, load_results, load_result_alone, load_results_alone, account_after}
+use Rattle.rules.specs.Transactions.{Source, own_store, committed_store, initial_memory, Action}
+use Rattle.rules.specs.Transactions.{loaded, stored, Transaction, last_own_store, is_written}
+use Rattle.rules.specs.Transactions.{is_read, transaction_stores, transaction_named}
+use Rattle.rules.specs.Transactions.{committed_source}
+use Rattle.rules.specs.Account.{LoadResult, Account, load_results, load_result_alone}
+use Rattle.rules.specs.Account.{load_results_alone, account_after}
 use Rattle.rules.proofs.ListFacts.{eqb_sym, eqb_same, folded_append}
 
 -- What a line holds after a transaction's stores are written.

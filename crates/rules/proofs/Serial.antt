@@ -1,19 +1,28 @@
 -- Lists only: what four facts about committed transactions say of every order in which they run alone.
-use Rattle.std.proofs.Common.{◌≡◌, ℕ, suc, ◌+◌, ◌*◌, ◌<◌, ◌≤◌, Bool, true, false, cond, ◌&&◌, ◌||◌, eqb, ltb, ◌⊎◌, List, [], ◌∷◌, ◌++◌, length, is_some, Some, None, filter, Option, sym, refl, ap, ◌∙◌, subst, inl, inr, ⊎_elim, arith}
-use Rattle.std.proofs.lemmas.Bool.{both_ways, eq-eqb, ne_eqb, cases_Bool, cases_lt, cases_order, lt-ltb, or_left, or_right, or_cases}
+use Rattle.std.proofs.Common.{◌≡◌, ℕ, suc, ◌+◌, ◌*◌, ◌<◌, ◌≤◌, Bool, true, false, cond, ◌&&◌, ◌||◌}
+use Rattle.std.proofs.Common.{eqb, ltb, ◌⊎◌, List, [], ◌∷◌, ◌++◌, length, is_some, Some, None}
+use Rattle.std.proofs.Common.{filter, Option, sym, refl, ap, ◌∙◌, subst, inl, inr, ⊎_elim, arith}
+use Rattle.std.proofs.lemmas.Bool.{both_ways, eq-eqb, ne_eqb, cases_Bool, cases_lt, cases_order}
+use Rattle.std.proofs.lemmas.Bool.{lt-ltb, or_left, or_right, or_cases}
 use Rattle.std.proofs.lemmas.Bool.Decides.{nat_tests}
 use Rattle.std.proofs.lemmas.List.{get_or_past}
 use Rattle.memory.specs.Lines.{Lines}
 use Rattle.rules.specs.Lists.{has, last_of, numbers_below, occurrences, is_before}
-use Rattle.rules.specs.Transactions.{Source, own_store, committed_store, initial_memory, Transaction, no_transaction, last_own_store, is_written}
+use Rattle.rules.specs.Transactions.{Source, own_store, committed_store, initial_memory}
+use Rattle.rules.specs.Transactions.{Transaction, no_transaction, last_own_store, is_written}
 use Rattle.rules.specs.Transactions.{is_read, transaction_named, writers, committed_source}
-use Rattle.rules.specs.Account.{Account, load_results, load_results_alone, serial_account, account_of, EachOnce, EqualAccounts}
+use Rattle.rules.specs.Account.{Account, load_results, load_results_alone, serial_account}
+use Rattle.rules.specs.Account.{account_of, EachOnce, EqualAccounts}
 use Rattle.rules.specs.LogicalTime.{is_earlier, IsInLogicalOrder}
-use Rattle.rules.proofs.ListFacts.{has_append, has_kept, kept_has, kept_append, has_of_kept, has_upto, has_count, Once}
-use Rattle.rules.proofs.ListFacts.{once_apart, split_at, front_before, before_at, before_in_front, Rising, rising_left}
-use Rattle.rules.proofs.ListFacts.{rising_apart, kept_upto_rises, rising_same, rises_from_before, before_from_rises}
+use Rattle.rules.proofs.ListFacts.{has_append, has_kept, kept_has, kept_append, has_of_kept}
+use Rattle.rules.proofs.ListFacts.{has_upto, has_count, Once}
+use Rattle.rules.proofs.ListFacts.{once_apart, split_at, front_before, before_at, before_in_front}
+use Rattle.rules.proofs.ListFacts.{Rising, rising_left}
+use Rattle.rules.proofs.ListFacts.{rising_apart, kept_upto_rises, rising_same, rises_from_before}
+use Rattle.rules.proofs.ListFacts.{before_from_rises}
 use Rattle.rules.proofs.ListFacts.{last_none, last_stands, last_some, last_tops, last_rising}
-use Rattle.rules.proofs.Replay.{found_value, writer, writers_alone, values_alone, loads_alone, EachLoad, gets_the_same}
+use Rattle.rules.proofs.Replay.{found_value, writer, writers_alone, values_alone, loads_alone}
+use Rattle.rules.proofs.Replay.{EachLoad, gets_the_same}
 use Rattle.rules.proofs.Replay.{finds_the_same, found_elsewhere, each_read}
 
 -- A stamp and a warp below 32 as one number, in the order of logical time.

@@ -1,5 +1,7 @@
 -- The book counts each line's stores as its holder's transaction made them.
-use Rattle.std.proofs.Common.{◌≡◌, ℕ, suc, ◌+◌, ◌<◌, ◌≤◌, Bool, true, false, cond, eqb, ◌⊎◌, List, [], ◌∷◌, ◌++◌, length, is_some, Some, Option, sym, refl, ap, ◌∙◌, subst, inl, inr, arith}
+use Rattle.std.proofs.Common.{◌≡◌, ℕ, suc, ◌+◌, ◌<◌, ◌≤◌, Bool, true, false, cond, eqb, ◌⊎◌, List}
+use Rattle.std.proofs.Common.{[], ◌∷◌, ◌++◌, length, is_some, Some, Option, sym, refl, ap, ◌∙◌}
+use Rattle.std.proofs.Common.{subst, inl, inr, arith}
 use Rattle.std.proofs.lemmas.List.{length_push}
 use Rattle.std.proofs.lemmas.Bool.{both_ways, ne_eqb, cases_eq}
 use Rattle.std.specs.Option.{option_map}
@@ -8,7 +10,8 @@ use Rattle.memory.specs.Lines.{Lines}
 use Rattle.book.specs.Meaning.{Kind}
 use Rattle.rules.specs.Lists.{has}
 use Rattle.rules.specs.Logs.{log_entry}
-use Rattle.rules.specs.Transactions.{Action, loaded, stored, Transaction, last_own_store, is_written, transaction_stores, store_count}
+use Rattle.rules.specs.Transactions.{Action, loaded, stored, Transaction, last_own_store}
+use Rattle.rules.specs.Transactions.{is_written, transaction_stores, store_count}
 use Rattle.rules.specs.Ledger.{Ledger, with_action, with_current, with_begun}
 use Rattle.rules.proofs.ListFacts.{eqb_same}
 use Rattle.rules.proofs.Ledgers.{hold_in, hold, hold_writes, History, current_cases}

@@ -1,6 +1,8 @@
 -- Tries keep the invariant of a run, in whatever order they come, and leave no waiting warp behind if the order covers
 -- the waiting requests.
-use Rattle.std.proofs.Common.{◌≡◌, ℕ, ◌<◌, Bool, true, false, cond, eqb, ◌⊎◌, List, [], ◌∷◌, ◌++◌, is_some, Some, None, fold, Option, sym, refl, ap, ◌∙◌, subst, inl, inr, ⊎_elim, arith}
+use Rattle.std.proofs.Common.{◌≡◌, ℕ, ◌<◌, Bool, true, false, cond, eqb, ◌⊎◌, List, [], ◌∷◌, ◌++◌}
+use Rattle.std.proofs.Common.{is_some, Some, None, fold, Option, sym, refl, ap, ◌∙◌, subst, inl}
+use Rattle.std.proofs.Common.{inr, ⊎_elim, arith}
 use Rattle.std.proofs.lemmas.List.Sums.{fold_push}
 use Rattle.std.proofs.lemmas.Bool.{both_ways, eqb-true, eq-eqb, or_cases}
 use Rattle.std.specs.Option.{option_map}
@@ -13,15 +15,20 @@ use Rattle.rules.specs.declared.state.Access.TheVariants.{Read, Write}
 use Rattle.rules.specs.declared.state.Request.{Request}
 use Rattle.rules.specs.Lists.{has}
 use Rattle.rules.specs.Logs.{log_entry, logged_lines}
-use Rattle.rules.specs.State.{WarpRow, Machine, SettledRequest, idle_row, is_idle, is_waiting, warp_row_of, time_of}
+use Rattle.rules.specs.State.{WarpRow, Machine, SettledRequest, idle_row, is_idle, is_waiting}
+use Rattle.rules.specs.State.{warp_row_of, time_of}
 use Rattle.rules.specs.declared.verdict.Verdict.{Verdict}
-use Rattle.rules.specs.declared.verdict.Verdict.TheVariants.{OwnLine, Gone as VerdictGone, MustWait, GoOn}
+use Rattle.rules.specs.declared.verdict.Verdict.TheVariants.{OwnLine, Gone as VerdictGone, MustWait}
+use Rattle.rules.specs.declared.verdict.Verdict.TheVariants.{GoOn}
 use Rattle.rules.specs.Access.{line_state, retried}
 use Rattle.rules.specs.Queue.{Policy, request_of, access_at, pending_access}
 use Rattle.rules.specs.Serving.{memory_value, served_on_free_line}
-use Rattle.rules.specs.Ending.{AfterTries, after_settling, settled_request, after_try, after_turn_with, after_turn, after_turns, without_lines, after_giving_up, after_end}
+use Rattle.rules.specs.Ending.{AfterTries, after_settling, settled_request, after_try}
+use Rattle.rules.specs.Ending.{after_turn_with, after_turn, after_turns, without_lines}
+use Rattle.rules.specs.Ending.{after_giving_up, after_end}
 use Rattle.rules.specs.Transactions.{Transaction, loaded, stored, load_action}
-use Rattle.rules.specs.Ledger.{Ledger, with_action, load_source, ledger_after_settled, ledger_after_outcome}
+use Rattle.rules.specs.Ledger.{Ledger, with_action, load_source, ledger_after_settled}
+use Rattle.rules.specs.Ledger.{ledger_after_outcome}
 use Rattle.rules.proofs.Verdicts.{Means, retried_means}
 use Rattle.rules.proofs.Logs.{waiting_busy}
 use Rattle.rules.proofs.Invariant.{Matches, Blocked, Waiter, Inv, exempt, current_mine}

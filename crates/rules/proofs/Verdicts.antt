@@ -7,7 +7,8 @@ use Rattle.rules.specs.declared.state.Access.{Access}
 use Rattle.rules.specs.declared.state.Access.TheVariants.{Read, Write}
 use Rattle.book.specs.declared.book.LineState.{LineState}
 use Rattle.rules.specs.declared.verdict.Verdict.{Verdict}
-use Rattle.rules.specs.declared.verdict.Verdict.TheVariants.{OwnLine, Gone as VerdictGone, MustWait, GoOn}
+use Rattle.rules.specs.declared.verdict.Verdict.TheVariants.{OwnLine, Gone as VerdictGone, MustWait}
+use Rattle.rules.specs.declared.verdict.Verdict.TheVariants.{GoOn}
 use Rattle.rules.specs.Access.{by_owner, by_mark, retried, is_owner}
 use Rattle.rules.specs.Access.{decide, verdict_with_room}
 

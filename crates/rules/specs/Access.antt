@@ -54,7 +54,8 @@ by_mark (Write value) t time =
 -- waiting request is retried from this step on.
 abbrev pub retried : Access → LineState → Time → Verdict
 retried access t time =
-    cond (nat_lt time.0 t.write_stamp) (VerdictGone WrittenLater (stamp_past access t)) (by_mark access t time)
+    cond (nat_lt time.0 t.write_stamp) (VerdictGone WrittenLater (stamp_past access t))
+    (by_mark access t time)
 
 -- The warp has the line reserved.
 abbrev pub is_owner : Option ℕ → ℕ → Bool

@@ -26,8 +26,9 @@ pub record Account : Type 0 where
 -- What a transaction's loads got in the run.
 abbrev pub load_results : List Action → List LoadResult
 load_results [] = []
-load_results (loaded d ∷ earlier_actions) = record { value = Some d.value; source = d.source } ∷ load_results earlier_actions
-load_results (stored s ∷ earlier_actions) = load_results earlier_actions
+load_results (loaded d ∷ before) =
+    record { value = Some d.value; source = d.source } ∷ load_results before
+load_results (stored s ∷ before) = load_results before
 
 -- The machine's account: the recorded loads, and the memory after the run.
 abbrev pub account_of : List Transaction → Lines → Account
@@ -47,27 +48,29 @@ load_result_alone None value source = record { value = value; source = source }
 -- What a transaction's loads get when it is executed alone, after the transactions of an account.
 abbrev pub load_results_alone : Account → List Action → List LoadResult
 load_results_alone a [] = []
-load_results_alone a (loaded d ∷ earlier_actions) =
-    load_result_alone (last_own_store earlier_actions d.line) (a.last_values d.line) (committed_source (last_of (a.line_writers d.line)))
-    ∷ load_results_alone a earlier_actions
-load_results_alone a (stored s ∷ earlier_actions) = load_results_alone a earlier_actions
+load_results_alone a (loaded d ∷ before) =
+    load_result_alone (last_own_store before d.line) (a.last_values d.line)
+    (committed_source (last_of (a.line_writers d.line)))
+    ∷ load_results_alone a before
+load_results_alone a (stored s ∷ before) = load_results_alone a before
 
 -- The account after one more transaction is executed alone: its loads get their values, and then it
 -- writes its stores in order and becomes a writer of their lines.
 unfoldable pub account_after : List Transaction → Account → ℕ → Account
 account_after txs a name =
+    let actions = (transaction_named txs name).actions in
     record {
-      loads = λ n. cond (n == name) (load_results_alone a (transaction_named txs name).actions) (a.loads n);
-      last_values = lines_after_stores a.last_values (transaction_stores (transaction_named txs name).actions);
-      line_writers =
-          λ line. a.line_writers line ++ cond (is_written (transaction_named txs name).actions line) (name ∷ []) [];
+      loads = λ n. cond (n == name) (load_results_alone a actions) (a.loads n);
+      last_values = lines_after_stores a.last_values (transaction_stores actions);
+      line_writers = λ line. a.line_writers line ++ cond (is_written actions line) (name ∷ []) [];
     }
 
 -- The account of all transactions executed alone, in an order, from the initial memory and with no
 -- writers.
 abbrev pub serial_account : Lines → List Transaction → List ℕ → Account
 serial_account memory txs order =
-    fold (account_after txs) (record { loads = λ n. []; last_values = memory; line_writers = λ line. [] }) order
+    fold (account_after txs)
+    (record { loads = λ n. []; last_values = memory; line_writers = λ line. [] }) order
 
 -- The order contains each name below n once, and nothing else.
 abbrev pub EachOnce : List ℕ → ℕ → Type 0

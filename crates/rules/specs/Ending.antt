@@ -24,7 +24,8 @@ pub record AfterTries (k : Kind) : Type 0 where
 
 -- A settled request, from its parts.
 abbrev pub settled_request : ℕ → ℕ → Access → Outcome → SettledRequest
-settled_request w line access outcome = record { warp = w; line = line; access = access; outcome = outcome }
+settled_request w line access outcome =
+    record { warp = w; line = line; access = access; outcome = outcome }
 
 -- The row of a warp whose request is settled. It keeps its stamp until the outcome is fetched.
 abbrev pub with_outcome : WarpRow → Outcome → WarpRow
@@ -33,23 +34,30 @@ with_outcome warp_row outcome = row_in_phase warp_row (Settled outcome)
 module _ {k : Kind} where
   -- A request is withdrawn: it leaves the queue, and its warp is open again.
   unfoldable pub after_withdrawal : Machine k → ℕ → Machine k
-  after_withdrawal m w = with_queue (with_warp_row m w (row_in_phase (warp_row_of m w) Open)) (queue_without m.queue w)
+  after_withdrawal m w =
+      with_queue (with_warp_row m w (row_in_phase (warp_row_of m w) Open))
+      (queue_without m.queue w)
 
   -- A request is settled: it is withdrawn, and its warp has an outcome to fetch.
   unfoldable pub after_settling : Machine k → ℕ → Outcome → Machine k
   after_settling m w outcome =
-      let back = after_withdrawal m w in with_warp_row back w (with_outcome (warp_row_of back w) outcome)
+      let withdrawn = after_withdrawal m w in
+      with_warp_row withdrawn w (with_outcome (warp_row_of withdrawn w) outcome)
 
   -- A request is settled, and is added to the settled ones.
   abbrev pub with_settled : AfterTries k → Machine k → ℕ → ℕ → Access → Outcome → AfterTries k
   with_settled st m w line access outcome =
-      record { machine = after_settling m w outcome; settled = st.settled ++ settled_request w line access outcome ∷ [] }
+      record {
+        machine = after_settling m w outcome;
+        settled = st.settled ++ settled_request w line access outcome ∷ [];
+      }
 
   -- A retry, by its verdict. A request that must wait keeps its place in the queue. A retry skips
   -- the first access step, so its verdict is never `OwnLine`.
   unfoldable pub after_try : AfterTries k → ℕ → ℕ → Access → Verdict → AfterTries k
   after_try st w line access OwnLine = st
-  after_try st w line access (VerdictGone cause next) = with_settled st st.machine w line access (OutcomeGone cause next)
+  after_try st w line access (VerdictGone cause next) =
+      with_settled st st.machine w line access (OutcomeGone cause next)
   after_try st w line access MustWait = st
   after_try st w line access GoOn =
       let served = served_on_free_line st.machine w line access in
@@ -81,13 +89,16 @@ module _ {k : Kind} where
 
   -- The requests that wait for some lines are retried, line by line.
   abbrev pub after_turns_at_lines : Policy k → Machine k → List ℕ → AfterTries k
-  after_turns_at_lines policy m lines = fold (after_turns policy) (record { machine = m; settled = [] }) lines
+  after_turns_at_lines policy m lines =
+      fold (after_turns policy) (record { machine = m; settled = [] }) lines
 
   -- A warp gives up some lines in three steps: they are released, its row is replaced, and the
   -- requests that wait for them are retried.
   unfoldable pub after_giving_up : Policy k → Machine k → ℕ → WarpRow → List ℕ → AfterTries k
-  after_giving_up policy m w warp_row lines = after_turns_at_lines policy (without_lines m w warp_row lines) lines
+  after_giving_up policy m w warp_row lines =
+      after_turns_at_lines policy (without_lines m w warp_row lines) lines
 
   -- A transaction ends: its warp gives up the lines that its log stores to, and is idle at a stamp.
   unfoldable pub after_end : Policy k → Machine k → ℕ → ℕ → AfterTries k
-  after_end policy m w stamp = after_giving_up policy m w (idle_row stamp) (logged_lines (warp_row_of m w).log)
+  after_end policy m w stamp =
+      after_giving_up policy m w (idle_row stamp) (logged_lines (warp_row_of m w).log)

@@ -148,7 +148,8 @@ next_stamp_taken (Settled (OutcomeGone cause next)) stamp = next
 
 -- The row of a warp that has taken its next stamp early.
 abbrev pub row_with_stamp_taken : WarpRow → WarpRow
-row_with_stamp_taken warp_row = record warp_row { stamp = next_stamp_taken warp_row.phase warp_row.stamp }
+row_with_stamp_taken warp_row =
+    record warp_row { stamp = next_stamp_taken warp_row.phase warp_row.stamp }
 
 -- The wrong machine, where every warp does so.
 abbrev pub with_stamps_taken : Machine exact → Machine exact
@@ -163,7 +164,8 @@ wrong_run_with_call r call =
 -- The wrong machine's run of a sample.
 abbrev pub wrong_run : Sample → Run exact
 wrong_run s =
-    fold wrong_run_with_call (record { machine = new_machine exact (word_lines s.values) exact_new s.stamps; events = [] }) s.calls
+    let first = new_machine exact (word_lines s.values) exact_new s.stamps in
+    fold wrong_run_with_call (record { machine = first; events = [] }) s.calls
 
 -- Warps 1 and 2 wait at stamp 5 for warp 0's line, and warp 3 waits at stamp 6 for a line of warp
 -- 2. Warp 0 commits: warp 1 gets the line, and the load of warp 2 is aborted with the next stamp 7.
@@ -185,7 +187,8 @@ StampKeptUntilFetched = Leads (sample_run lost_holder).machine (sample_ledger lo
 
 -- The wrong machine breaks the law of waits: warp 3 waits for a warp with a later stamp.
 abbrev pub EarlyStampBreaksWaits : Type 0
-EarlyStampBreaksWaits = WaitsEnd (wrong_run lost_holder).machine (ledger_of (wrong_run lost_holder).events) → ⊥
+EarlyStampBreaksWaits =
+    WaitsEnd (wrong_run lost_holder).machine (ledger_of (wrong_run lost_holder).events) → ⊥
 
 -- What a wrong machine might commit, a lost update: two transactions both loaded 7, and both
 -- stored.
@@ -197,7 +200,8 @@ lost_update =
 -- An order explains these transactions: executed alone in it, they give their account.
 abbrev pub Explains : List ℕ → Type 0
 Explains order =
-    EqualAccounts 2 (account_of lost_update (word_lines (9 ∷ []))) (serial_account (word_lines (7 ∷ [])) lost_update order)
+    EqualAccounts 2 (account_of lost_update (word_lines (9 ∷ [])))
+    (serial_account (word_lines (7 ∷ [])) lost_update order)
 
 -- Neither order explains the lost update.
 abbrev pub LostUpdateUnexplained : Type 0

@@ -39,8 +39,10 @@ AccountsAgree initial l final =
     let txs = l.committed in
     let n = length txs in
     (order : List ℕ) → EachOnce order n
-    → (EqualAccounts n (account_of txs final) (serial_account initial txs order) → IsInLogicalOrder txs order)
-    × (IsInLogicalOrder txs order → EqualAccounts n (account_of txs final) (serial_account initial txs order))
+    → (EqualAccounts n (account_of txs final) (serial_account initial txs order)
+    → IsInLogicalOrder txs order)
+    × (IsInLogicalOrder txs order
+    → EqualAccounts n (account_of txs final) (serial_account initial txs order))
 
 -- Some order explains the run: the committed transactions, executed alone, once each, in that
 -- order, give the machine's account.
@@ -48,18 +50,21 @@ abbrev pub IsExplained : Lines → Ledger → Lines → Type 0
 IsExplained initial l final =
     let txs = l.committed in
     let n = length txs in
-    (order : List ℕ) × EachOnce order n × EqualAccounts n (account_of txs final) (serial_account initial txs order)
+    (order : List ℕ) × EachOnce order n
+    × EqualAccounts n (account_of txs final) (serial_account initial txs order)
 
 -- A warp has a transaction, whose latest load or store is this one.
 abbrev pub DidLast : Option Transaction → Action → Type 0
-DidLast current action = (tx : Transaction) × (rest : List Action) × (current ≡ Some tx) × (tx.actions ≡ action ∷ rest)
+DidLast current action =
+    (tx : Transaction) × (rest : List Action) × (current ≡ Some tx) × (tx.actions ≡ action ∷ rest)
 
 -- A settled request has joined its warp's transaction: a load with its value, a store with the
 -- value that it was to store. An aborted request joins nothing, and its transaction has not ended
 -- yet.
 abbrev pub HasJoined : Option Transaction → SettledRequest → Outcome → Type 0
 HasJoined current s (Value value) =
-    (source : Source) × (s.access ≡ Read) × DidLast current (loaded (load_action s.line value source))
+    (source : Source) × (s.access ≡ Read)
+    × DidLast current (loaded (load_action s.line value source))
 HasJoined current s Stored =
     (value : ℕ) × (s.access ≡ Write value) × DidLast current (stored (log_entry s.line value))
 HasJoined current s (OutcomeGone cause next) = (tx : Transaction) × (current ≡ Some tx)
@@ -82,12 +87,14 @@ pub record FetchReturns (before : List Event) (w : ℕ) (answer : Answer) : Type
 -- So it is with every fetch that is neither refused nor told to wait.
 abbrev pub FetchesReturn : List Event → Type 0
 FetchesReturn events =
-    (before : List Event) (e : Event) (after : List Event) → events ≡ before ++ e ∷ after → e.call.op ≡ Fetch
-    → (answer : Answer) → e.answer ≡ Ok answer → answer ≢ Wait → FetchReturns before e.call.warp answer
+    (before : List Event) (e : Event) (after : List Event) → events ≡ before ++ e ∷ after
+    → e.call.op ≡ Fetch → (answer : Answer) → e.answer ≡ Ok answer → answer ≢ Wait
+    → FetchReturns before e.call.warp answer
 
 -- A warp holds a line: its transaction, which has not ended, stored to it.
 abbrev pub IsHolder : Ledger → ℕ → ℕ → Type 0
-IsHolder l line h = (tx : Transaction) × (l.current h ≡ Some tx) × (is_written tx.actions line ≡ true)
+IsHolder l line h =
+    (tx : Transaction) × (l.current h ≡ Some tx) × (is_written tx.actions line ≡ true)
 
 -- The warp waits.
 abbrev pub is_waiting_now : {k : Kind} → Machine k → ℕ → Bool
@@ -112,7 +119,9 @@ module _ {k : Kind} (m : Machine k) (l : Ledger) where
   -- No deadlock: from every waiting warp, fewer steps than there are warps lead to a warp that does
   -- not wait.
   abbrev pub WaitsEnd : Type 0
-  WaitsEnd = (w : ℕ) → is_waiting_now m w ≡ true → (steps : ℕ) × Leads w steps × (steps < length m.warp_rows)
+  WaitsEnd =
+      (w : ℕ) → is_waiting_now m w ≡ true
+      → (steps : ℕ) × Leads w steps × (steps < length m.warp_rows)
 
   -- The machine's tables agree with the ledger. A warp is idle exactly when it has no transaction;
   -- otherwise its row has its transaction's stamp and stores. A line that a transaction stored to
@@ -120,14 +129,23 @@ module _ {k : Kind} (m : Machine k) (l : Ledger) where
   -- nobody and has count 0.
   pub record TablesAgree : Type 0 where
     pub idle_warp : (w : ℕ) → l.current w ≡ None → is_idle (warp_row_of m w).phase ≡ true
-    pub busy_warp : (w : ℕ) (tx : Transaction) → l.current w ≡ Some tx → is_idle (warp_row_of m w).phase ≡ false
-    pub its_stamp : (w : ℕ) (tx : Transaction) → l.current w ≡ Some tx → (warp_row_of m w).stamp ≡ tx.stamp
-    pub its_log : (w : ℕ) (tx : Transaction) → l.current w ≡ Some tx → (warp_row_of m w).log ≡ transaction_stores tx.actions
+    pub busy_warp :
+        (w : ℕ) (tx : Transaction) → l.current w ≡ Some tx → is_idle (warp_row_of m w).phase ≡ false
+    pub its_stamp :
+        (w : ℕ) (tx : Transaction) → l.current w ≡ Some tx → (warp_row_of m w).stamp ≡ tx.stamp
+    pub its_log :
+        (w : ℕ) (tx : Transaction) → l.current w ≡ Some tx
+        → (warp_row_of m w).log ≡ transaction_stores tx.actions
     pub held_line : (line h : ℕ) → IsHolder l line h → k.owner m.book line ≡ Some h
     pub held_count :
-        (line h : ℕ) (held : IsHolder l line h) → k.stores m.book line ≡ store_count held.0.actions line
-    pub free_line : (line : ℕ) → line < line_limit → ((h : ℕ) → IsHolder l line h → ⊥) → k.owner m.book line ≡ None
-    pub free_count : (line : ℕ) → line < line_limit → ((h : ℕ) → IsHolder l line h → ⊥) → k.stores m.book line ≡ 0
+        (line h : ℕ) (held : IsHolder l line h)
+        → k.stores m.book line ≡ store_count held.0.actions line
+    pub free_line :
+        (line : ℕ) → line < line_limit → ((h : ℕ) → IsHolder l line h → ⊥)
+        → k.owner m.book line ≡ None
+    pub free_count :
+        (line : ℕ) → line < line_limit → ((h : ℕ) → IsHolder l line h → ⊥)
+        → k.stores m.book line ≡ 0
 
 -- An order of turns leaves out no request that waits.
 abbrev pub Covers : {k : Kind} → Policy k → Type 0
@@ -171,14 +189,16 @@ module _ (k : Kind) where
   LawOfWaits =
       Keeps k → (policy : Policy k) → Covers policy → (lines : Lines) (book : k.State) → k.Good book
       → (stamps : List ℕ) (calls : List Call)
-      → (let r = run policy (new_machine k lines book stamps) calls in WaitsEnd r.machine (ledger_of r.events))
+      → (let r = run policy (new_machine k lines book stamps) calls in
+      WaitsEnd r.machine (ledger_of r.events))
 
   -- The law of tables, of every such run of a machine that was not refused when it was made.
   abbrev pub LawOfTables : Type 0
   LawOfTables =
       Keeps k → (policy : Policy k) (lines : Lines) (book : k.State) → k.Good book
       → (stamps : List ℕ) → making_fault k book stamps ≡ None → (calls : List Call)
-      → (let r = run policy (new_machine k lines book stamps) calls in TablesAgree r.machine (ledger_of r.events))
+      → (let r = run policy (new_machine k lines book stamps) calls in
+      TablesAgree r.machine (ledger_of r.events))
 
   -- The product's own order of turns leaves out no waiting request.
   abbrev pub ProductCovers : Type 0

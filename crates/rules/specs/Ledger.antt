@@ -37,7 +37,9 @@ with_action tx action = record tx { actions = action ∷ tx.actions }
 
 -- Where a load finds its value when it joins its transaction.
 abbrev pub load_source : List Transaction → Transaction → ℕ → Source
-load_source txs tx line = own_or_other_source (last_own_store tx.actions line) (committed_source (last_of (writers txs line)))
+load_source txs tx line =
+    own_or_other_source (last_own_store tx.actions line)
+    (committed_source (last_of (writers txs line)))
 
 -- The ledger with another transaction, or none, for one warp.
 abbrev pub with_current : Ledger → ℕ → Option Transaction → Ledger
@@ -45,11 +47,14 @@ with_current l w tx = record l { current = λ v. cond (v == w) tx (l.current v) 
 
 -- The ledger after a load or a store joins its warp's transaction.
 abbrev pub with_joined_action : Ledger → ℕ → (Transaction → Action) → Ledger
-with_joined_action l w action = with_current l w (option_map (λ tx. with_action tx (action tx)) (l.current w))
+with_joined_action l w action =
+    with_current l w (option_map (λ tx. with_action tx (action tx)) (l.current w))
 
 -- The ledger after a load joins its warp's transaction.
 abbrev pub with_load : Ledger → ℕ → ℕ → ℕ → Ledger
-with_load l w line value = with_joined_action l w (λ tx. loaded (load_action line value (load_source l.committed tx line)))
+with_load l w line value =
+    with_joined_action l w
+    (λ tx. loaded (load_action line value (load_source l.committed tx line)))
 
 -- The ledger after a store joins its warp's transaction.
 abbrev pub with_store : Ledger → ℕ → ℕ → ℕ → Ledger
@@ -65,7 +70,8 @@ without_current l w = with_current l w None
 
 -- The ledger after a warp's transaction commits.
 abbrev pub with_committed : Ledger → ℕ → Ledger
-with_committed l w = record (without_current l w) { committed = l.committed ++ option_to_list (l.current w) }
+with_committed l w =
+    record (without_current l w) { committed = l.committed ++ option_to_list (l.current w) }
 
 -- The ledger after the answer `ok` to a warp's call, at the warp's stamp. A fetched store joined
 -- its transaction when it was settled.
@@ -116,7 +122,8 @@ ledger_after_settled l s = ledger_after_outcome l s.warp s.line s.access s.outco
 -- The ledger after a call: first its own answer, then the requests that it settled, in order.
 unfoldable pub ledger_after_event : Ledger → Event → Ledger
 ledger_after_event l e =
-    fold ledger_after_settled (ledger_after_reply l e.call.warp e.stamp e.call.op e.answer) e.settled
+    fold ledger_after_settled (ledger_after_reply l e.call.warp e.stamp e.call.op e.answer)
+    e.settled
 
 -- The ledger before the first call: no warp has a transaction, and none is committed.
 abbrev pub new_ledger : Ledger

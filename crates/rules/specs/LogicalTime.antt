@@ -19,11 +19,15 @@ is_used actions line = is_written actions line || is_read actions line
 
 -- Two transactions conflict at a line: both use it, and at least one stored to it.
 abbrev pub is_conflict_at : List Action → List Action → ℕ → Bool
-is_conflict_at a b line = is_used a line && (is_used b line && (is_written a line || is_written b line))
+is_conflict_at a b line =
+    is_used a line && (is_used b line && (is_written a line || is_written b line))
 
 -- Two transactions conflict at some line.
 abbrev pub Conflict : List Transaction → ℕ → ℕ → Type 0
-Conflict txs a b = (line : ℕ) × (is_conflict_at (transaction_named txs a).actions (transaction_named txs b).actions line ≡ true)
+Conflict txs a b =
+    let s = transaction_named txs a in
+    let t = transaction_named txs b in
+    (line : ℕ) × (is_conflict_at s.actions t.actions line ≡ true)
 
 -- Of every two transactions that conflict, the earlier in logical time comes first in the order.
 abbrev pub IsInLogicalOrder : List Transaction → List ℕ → Type 0

@@ -13,7 +13,8 @@ log_entry line value = record { line = line; value = value }
 
 -- The last value stored to a line, if any. The log is in the order of the stores.
 abbrev pub last_stored : List LogEntry → ℕ → Option ℕ
-last_stored log line = fold (λ found (s : LogEntry). cond (s.line == line) (Some s.value) found) None log
+last_stored log line =
+    fold (λ found (s : LogEntry). cond (s.line == line) (Some s.value) found) None log
 
 -- The line of each store.
 abbrev pub entry_lines : List LogEntry → List ℕ

@@ -29,10 +29,17 @@ module _ (k : Kind) where
   -- past the end of the clock, or its book is not new.
   abbrev pub making_fault : k.State → List ℕ → Option Fault
   making_fault book stamps =
-      option_or (fault_unless (nat_lt 0 (length stamps) && nat_le (length stamps) warp_limit) BadSize (length stamps))
-      (option_or (late_fault (first_late stamps)) (fault_unless (k.latest book == 0) BadStamp (k.latest book)))
+      let count = length stamps in
+      let latest = k.latest book in
+      option_or (fault_unless (nat_lt 0 count && nat_le count warp_limit) BadSize count)
+      (option_or (late_fault (first_late stamps)) (fault_unless (latest == 0) BadStamp latest))
 
   -- A new machine: every warp is idle at its first stamp, and no request waits.
   abbrev pub new_machine : Lines → k.State → List ℕ → Machine k
   new_machine lines book stamps =
-      record { lines = lines; book = book; warp_rows = first_warp_rows (making_fault book stamps) stamps; queue = [] }
+      record {
+        lines = lines;
+        book = book;
+        warp_rows = first_warp_rows (making_fault book stamps) stamps;
+        queue = [];
+      }

@@ -69,11 +69,13 @@ module _ {k : Kind} where
   -- The fault of a call with a bad number: the clock has run out, there is no such line, or the log
   -- is full.
   abbrev pub number_fault : Machine k → ℕ → Op → Option Fault
-  number_fault m w Begin = fault_unless (nat_le (warp_row_of m w).stamp last_stamp) ClockSpent (warp_row_of m w).stamp
+  number_fault m w Begin =
+      let stamp = (warp_row_of m w).stamp in fault_unless (nat_le stamp last_stamp) ClockSpent stamp
   number_fault m w (Load line) = fault_unless (has_line m line) NoSuchLine line
   number_fault m w (Store line value) =
+      let logged = length (warp_row_of m w).log in
       option_or (fault_unless (has_line m line) NoSuchLine line)
-      (fault_unless (nat_lt (length (warp_row_of m w).log) log_limit) LogFull (length (warp_row_of m w).log))
+      (fault_unless (nat_lt logged log_limit) LogFull logged)
   number_fault m w Commit = None
   number_fault m w Drop = None
   number_fault m w Fetch = None

@@ -26,8 +26,12 @@ module _ {k : Kind} where
   abbrev pub event_of : Policy k → Machine k → Call → Event
   event_of policy m call =
       let s = step policy m call in
-      record
-      { call = call; stamp = (warp_row_of m call.warp).stamp; answer = s.answer; settled = s.settled }
+      record {
+        call = call;
+        stamp = (warp_row_of m call.warp).stamp;
+        answer = s.answer;
+        settled = s.settled;
+      }
 
   -- A run with one more call.
   unfoldable pub run_with_call : Policy k → Run k → Call → Run k
@@ -48,4 +52,5 @@ settled_requests (e ∷ events) = e.settled ++ settled_requests events
 
 -- The last one among settled requests that is a warp's, if any.
 abbrev pub last_settled_request : List SettledRequest → ℕ → Option SettledRequest
-last_settled_request settled w = fold (λ found (s : SettledRequest). cond (s.warp == w) (Some s) found) None settled
+last_settled_request settled w =
+    fold (λ found (s : SettledRequest). cond (s.warp == w) (Some s) found) None settled

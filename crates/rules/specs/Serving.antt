@@ -33,9 +33,11 @@ module _ {k : Kind} where
   -- On a line that nobody has reserved, a load gives the value in memory, and a store reserves the
   -- line.
   unfoldable pub served_on_free_line : Machine k → ℕ → ℕ → Access → Served k
-  served_on_free_line m w line Read = record { machine = with_read_noted m w line; outcome = Value (memory_value m line) }
+  served_on_free_line m w line Read =
+      record { machine = with_read_noted m w line; outcome = Value (memory_value m line) }
   served_on_free_line m w line (Write value) =
-      record { machine = with_store_logged (with_book m (state_after_reserve k m.book line (time_of m w))) w line value; outcome = Stored }
+      let reserved = with_book m (state_after_reserve k m.book line (time_of m w)) in
+      record { machine = with_store_logged reserved w line value; outcome = Stored }
 
   -- On a line that the warp has reserved, a load gives the last value that the warp logged for it,
   -- and a store adds one to the line's count. In a run the log always has such a value; without one
@@ -47,4 +49,5 @@ module _ {k : Kind} where
         outcome = Value (unwrap_or (last_stored (warp_row_of m w).log line) (memory_value m line));
       }
   served_on_own_line m w line (Write value) =
-      record { machine = with_store_logged (with_book m (state_after_add k m.book line)) w line value; outcome = Stored }
+      let counted = with_book m (state_after_add k m.book line) in
+      record { machine = with_store_logged counted w line value; outcome = Stored }

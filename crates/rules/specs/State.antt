@@ -62,7 +62,8 @@ row_in_phase warp_row phase = record warp_row { phase = phase }
 
 -- The row with one more store in its log.
 abbrev pub row_with_store : WarpRow → ℕ → ℕ → WarpRow
-row_with_store warp_row line value = record warp_row { log = warp_row.log ++ log_entry line value ∷ [] }
+row_with_store warp_row line value =
+    record warp_row { log = warp_row.log ++ log_entry line value ∷ [] }
 
 -- The row of a warp, out of all rows. A warp that the machine lacks counts as idle.
 abbrev pub warp_row_at : List WarpRow → ℕ → WarpRow

@@ -36,7 +36,8 @@ pub record Step (k : Kind) : Type 0 where
 
 -- The memory after some stores are written to it, in order.
 abbrev pub lines_after_stores : Lines → List LogEntry → Lines
-lines_after_stores lines stores = fold (λ ls (s : LogEntry). lines_with ls s.line s.value) lines stores
+lines_after_stores lines stores =
+    fold (λ ls (s : LogEntry). lines_with ls s.line s.value) lines stores
 
 module _ {k : Kind} where
   -- A call that is answered and settles no request.
@@ -45,7 +46,8 @@ module _ {k : Kind} where
 
   -- A call that ends a transaction, so that it may settle requests.
   abbrev pub ended_step : AfterTries k → Answer → Step k
-  ended_step after answer = record { machine = after.machine; answer = Ok answer; settled = after.settled }
+  ended_step after answer =
+      record { machine = after.machine; answer = Ok answer; settled = after.settled }
 
   -- A call that is refused: nothing changes.
   abbrev pub refused_step : Machine k → Fault → Step k
@@ -68,8 +70,10 @@ module _ {k : Kind} where
   -- A load or a store, by its verdict.
   unfoldable pub step_by_verdict : Policy k → Machine k → ℕ → ℕ → Access → Verdict → Step k
   step_by_verdict policy m w line access OwnLine = served_step (served_on_own_line m w line access)
-  step_by_verdict policy m w line access (VerdictGone cause next) = ended_step (after_end policy m w next) (Gone cause next)
-  step_by_verdict policy m w line access MustWait = answered_step (with_request_queued m w line access) Wait
+  step_by_verdict policy m w line access (VerdictGone cause next) =
+      ended_step (after_end policy m w next) (Gone cause next)
+  step_by_verdict policy m w line access MustWait =
+      answered_step (with_request_queued m w line access) Wait
   step_by_verdict policy m w line access GoOn = served_step (served_on_free_line m w line access)
 
   -- The verdict on a load or a store: the access steps, at what the book says of the line now, and
@@ -81,7 +85,8 @@ module _ {k : Kind} where
 
   -- A load or a store.
   abbrev pub access_step : Policy k → Machine k → ℕ → ℕ → Access → Step k
-  access_step policy m w line access = step_by_verdict policy m w line access (verdict_at policy m w line access)
+  access_step policy m w line access =
+      step_by_verdict policy m w line access (verdict_at policy m w line access)
 
   -- The machine after a warp goes on with its transaction.
   abbrev pub with_warp_resumed : Machine k → ℕ → Machine k
@@ -92,7 +97,8 @@ module _ {k : Kind} where
   unfoldable pub fetched_step : Policy k → Machine k → ℕ → Outcome → Step k
   fetched_step policy m w (Value value) = answered_step (with_warp_resumed m w) (Val value)
   fetched_step policy m w Stored = answered_step (with_warp_resumed m w) Done
-  fetched_step policy m w (OutcomeGone cause next) = ended_step (after_end policy m w next) (Gone cause next)
+  fetched_step policy m w (OutcomeGone cause next) =
+      ended_step (after_end policy m w next) (Gone cause next)
 
   -- A fetch, by the phase of its warp. A fetch by an idle or an open warp is refused earlier; here
   -- it would be told to wait.
@@ -104,10 +110,12 @@ module _ {k : Kind} where
 
   -- A call that is not refused.
   abbrev pub accepted_step : Policy k → Machine k → ℕ → Op → Step k
-  accepted_step policy m w Begin = answered_step (with_warp_row m w (open_row (warp_row_of m w).stamp)) Done
+  accepted_step policy m w Begin =
+      answered_step (with_warp_row m w (open_row (warp_row_of m w).stamp)) Done
   accepted_step policy m w (Load line) = access_step policy m w line Read
   accepted_step policy m w (Store line value) = access_step policy m w line (Write value)
-  accepted_step policy m w Commit = ended_step (after_end policy (with_log_written m w) w (warp_row_of m w).stamp) Done
+  accepted_step policy m w Commit =
+      ended_step (after_end policy (with_log_written m w) w (warp_row_of m w).stamp) Done
   accepted_step policy m w Drop = ended_step (after_end policy m w (warp_row_of m w).stamp) Done
   accepted_step policy m w Fetch = fetch_step policy m w (warp_row_of m w).phase
 

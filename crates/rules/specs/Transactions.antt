@@ -36,8 +36,9 @@ pub record Transaction : Type 0 where
 -- The value that a transaction last stored to a line, if it stored to it.
 abbrev pub last_own_store : List Action → ℕ → Option ℕ
 last_own_store [] line = None
-last_own_store (loaded d ∷ earlier_actions) line = last_own_store earlier_actions line
-last_own_store (stored s ∷ earlier_actions) line = cond (s.line == line) (Some s.value) (last_own_store earlier_actions line)
+last_own_store (loaded d ∷ before) line = last_own_store before line
+last_own_store (stored s ∷ before) line =
+    cond (s.line == line) (Some s.value) (last_own_store before line)
 
 -- The transaction stored to the line.
 abbrev pub is_written : List Action → ℕ → Bool
@@ -46,20 +47,20 @@ is_written actions line = is_some (last_own_store actions line)
 -- The transaction loaded the line.
 abbrev pub is_read : List Action → ℕ → Bool
 is_read [] line = false
-is_read (loaded d ∷ earlier_actions) line = d.line == line || is_read earlier_actions line
-is_read (stored s ∷ earlier_actions) line = is_read earlier_actions line
+is_read (loaded d ∷ before) line = d.line == line || is_read before line
+is_read (stored s ∷ before) line = is_read before line
 
 -- How often the transaction stored to the line.
 abbrev pub store_count : List Action → ℕ → ℕ
 store_count [] line = 0
-store_count (loaded d ∷ earlier_actions) line = store_count earlier_actions line
-store_count (stored s ∷ earlier_actions) line = cond (s.line == line) 1 0 + store_count earlier_actions line
+store_count (loaded d ∷ before) line = store_count before line
+store_count (stored s ∷ before) line = cond (s.line == line) 1 0 + store_count before line
 
 -- The stores of a transaction, in the order in which they were made.
 abbrev pub transaction_stores : List Action → List LogEntry
 transaction_stores [] = []
-transaction_stores (loaded d ∷ earlier_actions) = transaction_stores earlier_actions
-transaction_stores (stored s ∷ earlier_actions) = transaction_stores earlier_actions ++ s ∷ []
+transaction_stores (loaded d ∷ before) = transaction_stores before
+transaction_stores (stored s ∷ before) = transaction_stores before ++ s ∷ []
 
 -- What a name past all commits stands for.
 abbrev pub no_transaction : Transaction
@@ -71,7 +72,9 @@ transaction_named txs name = slice_index_or txs name no_transaction
 
 -- The names of the committed transactions that stored to a line, in commit order.
 abbrev pub writers : List Transaction → ℕ → List ℕ
-writers txs line = filter (λ name. is_written (transaction_named txs name).actions line) (numbers_below (length txs))
+writers txs line =
+    filter (λ name. is_written (transaction_named txs name).actions line)
+    (numbers_below (length txs))
 
 -- Where a load finds the value of a line that its own transaction did not store to: in the last
 -- writer's store, or in the initial memory.

@@ -36,7 +36,8 @@ fetch_by w = record { warp = w; op = Fetch }
 
 -- A run of the product's machine over the exact book.
 abbrev pub exact_run : List ℕ → List ℕ → List Call → Run exact
-exact_run stamps values calls = run (product_policy exact) (new_machine exact (word_lines values) exact_new stamps) calls
+exact_run stamps values calls =
+    run (product_policy exact) (new_machine exact (word_lines values) exact_new stamps) calls
 
 -- A call, and its answer or its refusal.
 pub record Row : Type 0 where
@@ -226,7 +227,8 @@ worked_runs =
 abbrev pub run_result : WorkedRun → List (Result Answer Fault) × List (Option ℕ)
 run_result r =
     let after = exact_run r.stamps r.first_values (map (λ (row : Row). row.call) r.rows) in
-    (map (λ (e : Event). e.answer) after.events, map after.machine.lines (numbers_below (length r.first_values)))
+    let lines = numbers_below (length r.first_values) in
+    (map (λ (e : Event). e.answer) after.events, map after.machine.lines lines)
 
 -- The same, as the worked run states them.
 abbrev pub stated_result : WorkedRun → List (Result Answer Fault) × List (Option ℕ)

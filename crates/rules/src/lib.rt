@@ -18,8 +18,8 @@ mod verdict;
 pub use state::{Access, Phase, Request};
 pub use verdict::Verdict;
 
-/// A kind of version book, by its meaning alone. The laws below hold over every kind that keeps the
-/// promises of a book.
+/// A kind of version book, by its meaning alone. The laws below hold over every kind that keeps
+/// the promises of a book.
 pub trait Versions {
     ghost kind: { Kind };
 }
@@ -43,20 +43,21 @@ pub fn fetches_tell<B: Versions>()
     ensures { LawOfFetches B.kind }
 {}
 
-/// The law of waits: no deadlock. A warp waits only for the holder of a line, whose stamp is smaller;
-/// following the holders, fewer steps than there are warps lead to a warp that does not wait.
+/// The law of waits: no deadlock. A warp waits only for the holder of a line, whose stamp is
+/// smaller; following the holders, fewer steps than there are warps lead to a warp that does not
+/// wait.
 pub fn waits_end<B: Versions>()
     ensures { LawOfWaits B.kind }
 {}
 
-/// The law of tables: after every run the machine's stamps, logs, owners and counts are those of the
-/// transactions that its answers show.
+/// The law of tables: after every run the machine's stamps, logs, owners and counts are those of
+/// the transactions that its answers show.
 pub fn tables_agree<B: Versions>()
     ensures { LawOfTables B.kind }
 {}
 
-/// The product's order of retries leaves out no waiting request, so the laws of accounts and of waits
-/// hold of every run of its machine.
+/// The product's order of retries leaves out no waiting request, so the laws of accounts and of
+/// waits hold of every run of its machine.
 pub fn product_is_lawful<B: Versions>()
     ensures covers { ProductCovers B.kind }
     ensures lawful { ProductLawful B.kind }
@@ -72,9 +73,9 @@ pub fn worked_runs_stand()
     ensures { WorkedRunsStand }
 {}
 
-/// The laws tell a right machine from a wrong one. In each small run timestamp order gives the run's
-/// account and the other order does not. A lost update is explained by no order, and a machine that
-/// takes an aborted transaction's next stamp too early breaks the law of waits.
+/// The laws tell a right machine from a wrong one. In each small run timestamp order gives the
+/// run's account and the other order does not. A lost update is explained by no order, and a
+/// machine that takes an aborted transaction's next stamp too early breaks the law of waits.
 pub fn definitions_tell()
     ensures writers { TwoWriters }
     ensures reader { WriterThenReader }

@@ -10,16 +10,16 @@ use Rattle.rules.specs.Runs.{run}
 use Rattle.rules.specs.Transactions.{transaction_named}
 use Rattle.rules.specs.Ledger.{Ledger, new_ledger, ledger_of}
 use Rattle.rules.specs.Laws.{AccountsAgree, LawOfAccounts}
-use Rattle.rules.proofs.Replay.{each_weaker}
-use Rattle.rules.proofs.Serial.{Right, Serial, accounts_agree}
+use Rattle.rules.proofs.SerialAccount.{each_weaker}
+use Rattle.rules.proofs.SerialOrders.{IsRightSource, Serial, accounts_agree}
 use Rattle.rules.proofs.History.{ReadNow}
 use Rattle.rules.proofs.Ledgers.{hold}
-use Rattle.rules.proofs.Invariant.{Inv}
+use Rattle.rules.proofs.Invariant.{Invariant}
 use Rattle.rules.proofs.Calls.{run_keeps, new_keeps, no_writer, refused_stays}
 
 -- The four facts are part of the invariant.
 serial :
-    (k : Kind) (first : Lines) (E : ℕ → ℕ → Type 0) (m : Machine k) (l : Ledger) → Inv k first E m l
+    (k : Kind) (first : Lines) (E : ℕ → ℕ → Type 0) (m : Machine k) (l : Ledger) → Invariant k first E m l
     → Serial first l.committed m.lines
 serial k first E m l I =
     record {
@@ -29,7 +29,7 @@ serial k first E m l I =
           each_weaker
           (ReadNow k first l.committed (hold l) m.book i (transaction_named l.committed i).stamp
           (transaction_named l.committed i).warp)
-          (Right first l.committed i (transaction_named l.committed i).stamp (transaction_named l.committed i).warp)
+          (IsRightSource first l.committed i (transaction_named l.committed i).stamp (transaction_named l.committed i).warp)
           (λ line v f r. r.right) (transaction_named l.committed i).actions (I.history.past i low);
       last = I.history.core.last;
       warps = I.history.core.warps;

@@ -29,13 +29,13 @@ use Rattle.rules.specs.Examples.{same_stamp, SameStamp, SettledLoadSeesCommit, c
 use Rattle.rules.specs.Examples.{lost_holder, wrong_run}
 use Rattle.rules.specs.Examples.{StampKeptUntilFetched, EarlyStampBreaksWaits}
 use Rattle.rules.specs.Examples.{LostUpdateUnexplained}
-use Rattle.rules.proofs.Replay.{writers_alone}
+use Rattle.rules.proofs.SerialAccount.{writers_alone}
 
 -- Two names.
-two : (P : ℕ → Type 0) → P 0 → P 1 → (n : ℕ) → n < 2 → P n
-two P a b zero l = a
-two P a b (suc zero) l = b
-two P a b (suc (suc n)) l = absurd (omega arith)
+for_each_of_two : (P : ℕ → Type 0) → P 0 → P 1 → (n : ℕ) → n < 2 → P n
+for_each_of_two P a b zero l = a
+for_each_of_two P a b (suc zero) l = b
+for_each_of_two P a b (suc (suc n)) l = absurd (omega arith)
 
 -- The value that a list of loads begins with.
 abbrev first_value : List LoadResult → Option ℕ
@@ -61,10 +61,10 @@ abbrev SameLoads : List Transaction → Lines → List ℕ → ℕ → Type 0
 SameLoads txs memory order n = (account_of txs memory).loads n ≡ (serial_account (word_lines (7 ∷ [])) txs order).loads n
 
 -- From what a run commits and leaves, written out, to the run.
-sampled :
+run_agrees :
     (s : Sample) (txs : List Transaction) (memory : Lines) (a b : ℕ) → sample_commits s ≡ txs → length txs ≡ 2
     → (sample_run s).machine.lines ≡ memory → TransactionsAgreeInOneOrder (word_lines s.values) txs memory a b → RunAgreesInOneOrder s a b
-sampled s txs memory a b e n m h =
+run_agrees s txs memory a b e n m h =
     record {
       commits_two = ap length e ∙ n;
       apart =
@@ -93,11 +93,11 @@ two_writers_case : TransactionsAgreeInOneOrder (word_lines (7 ∷ [])) two_write
 unfolding account_after
 two_writers_case =
     record {
-      clash = (0, refl);
+      conflict = (0, refl);
       in_time = refl;
       agrees =
           record {
-            same_loads = two (SameLoads two_writers_txs two_writers_memory (0 ∷ 1 ∷ [])) refl refl;
+            same_loads = for_each_of_two (SameLoads two_writers_txs two_writers_memory (0 ∷ 1 ∷ [])) refl refl;
             same_values = λ line. refl;
             same_writers =
                 λ line.
@@ -113,7 +113,7 @@ two_writers_case =
 
 pub two_writers_apart : TwoWriters
 two_writers_apart =
-    sampled two_writers two_writers_txs two_writers_memory 0 1
+    run_agrees two_writers two_writers_txs two_writers_memory 0 1
     two_writers_commits refl two_writers_leaves two_writers_case
 
 -- One writes a line, and a later one reads it.
@@ -137,11 +137,11 @@ writer_reader_case : TransactionsAgreeInOneOrder (word_lines (7 ∷ [])) writer_
 unfolding account_after
 writer_reader_case =
     record {
-      clash = (0, refl);
+      conflict = (0, refl);
       in_time = refl;
       agrees =
           record {
-            same_loads = two (SameLoads writer_reader_txs writer_reader_memory (0 ∷ 1 ∷ [])) refl refl;
+            same_loads = for_each_of_two (SameLoads writer_reader_txs writer_reader_memory (0 ∷ 1 ∷ [])) refl refl;
             same_values = λ line. refl;
             same_writers =
                 λ line.
@@ -154,7 +154,7 @@ writer_reader_case =
 
 pub writer_reader_apart : WriterThenReader
 writer_reader_apart =
-    sampled writer_reader writer_reader_txs writer_reader_memory 0 1
+    run_agrees writer_reader writer_reader_txs writer_reader_memory 0 1
     writer_reader_commits refl writer_reader_leaves writer_reader_case
 
 -- One reads a line, and a later one writes it and commits first.
@@ -178,11 +178,11 @@ reader_writer_case : TransactionsAgreeInOneOrder (word_lines (7 ∷ [])) reader_
 unfolding account_after
 reader_writer_case =
     record {
-      clash = (0, refl);
+      conflict = (0, refl);
       in_time = refl;
       agrees =
           record {
-            same_loads = two (SameLoads reader_writer_txs reader_writer_memory (1 ∷ 0 ∷ [])) refl refl;
+            same_loads = for_each_of_two (SameLoads reader_writer_txs reader_writer_memory (1 ∷ 0 ∷ [])) refl refl;
             same_values = λ line. refl;
             same_writers =
                 λ line.
@@ -195,7 +195,7 @@ reader_writer_case =
 
 pub reader_writer_apart : ReaderThenWriter
 reader_writer_apart =
-    sampled reader_writer reader_writer_txs reader_writer_memory 1 0
+    run_agrees reader_writer reader_writer_txs reader_writer_memory 1 0
     reader_writer_commits refl reader_writer_leaves reader_writer_case
 
 -- One warp, twice at one stamp.
@@ -219,11 +219,11 @@ same_stamp_case : TransactionsAgreeInOneOrder (word_lines (7 ∷ [])) same_stamp
 unfolding account_after
 same_stamp_case =
     record {
-      clash = (0, refl);
+      conflict = (0, refl);
       in_time = refl;
       agrees =
           record {
-            same_loads = two (SameLoads same_stamp_txs same_stamp_memory (0 ∷ 1 ∷ [])) refl refl;
+            same_loads = for_each_of_two (SameLoads same_stamp_txs same_stamp_memory (0 ∷ 1 ∷ [])) refl refl;
             same_values = λ line. refl;
             same_writers =
                 λ line.
@@ -236,7 +236,7 @@ same_stamp_case =
 
 pub same_stamp_apart : SameStamp
 same_stamp_apart =
-    sampled same_stamp same_stamp_txs same_stamp_memory 0 1
+    run_agrees same_stamp same_stamp_txs same_stamp_memory 0 1
     same_stamp_commits refl same_stamp_leaves same_stamp_case
 
 pub lost_update_unexplained : LostUpdateUnexplained

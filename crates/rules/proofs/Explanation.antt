@@ -13,7 +13,7 @@ use Rattle.rules.specs.Ledger.{ledger_of}
 use Rattle.rules.specs.Account.{EachOnce}
 use Rattle.rules.specs.LogicalTime.{is_earlier, IsInLogicalOrder}
 use Rattle.rules.specs.Laws.{LawOfAccounts, LawOfExplanation}
-use Rattle.rules.proofs.ListFacts.{has_count, count_append, has_upto}
+use Rattle.rules.proofs.ListFacts.{has_count, count_append, has_numbers_below}
 
 -- A number goes in before the first that it comes before; a list of numbers is sorted.
 inserted : (ℕ → ℕ → Bool) → ℕ → List ℕ → List ℕ
@@ -58,10 +58,10 @@ has_inserted before n z xs =
     has_count z (inserted before n xs) ∙ ap (ltb 0) (count_inserted before n z xs)
     ∙ sym (has_count z (n ∷ xs))
 
-count_upto : (z n : ℕ) → occurrences z (numbers_below n) ≡ cond (ltb z n) 1 0
-count_upto z zero = grind (arith, nat_tests)
-count_upto z (suc n) =
-    count_append z (numbers_below n) (n ∷ []) ∙ ap (λ c. c + (cond (eqb n z) 1 0 + 0)) (count_upto z n)
+count_numbers_below : (z n : ℕ) → occurrences z (numbers_below n) ≡ cond (ltb z n) 1 0
+count_numbers_below z zero = grind (arith, nat_tests)
+count_numbers_below z (suc n) =
+    count_append z (numbers_below n) (n ∷ []) ∙ ap (λ c. c + (cond (eqb n z) 1 0 + 0)) (count_numbers_below z n)
     ∙ one_more z n
   where
     one_more : (z n : ℕ) → cond (ltb z n) 1 0 + (cond (eqb n z) 1 0 + 0) ≡ cond (ltb z (suc n)) 1 0
@@ -169,7 +169,7 @@ unfolding in_time
 some_logical_order txs = (
   in_time txs,
   once,
-  λ a b p q clash first.
+  λ a b p q conflict first.
       stands (is_earlier txs) (time_is_strict txs) (in_time txs)
       (sorted_in_order (is_earlier txs) (time_is_strict txs) (numbers_below (length txs))) a b
       (stands_there a p) (stands_there b q) first,
@@ -177,11 +177,11 @@ some_logical_order txs = (
   where
     once : EachOnce (in_time txs) (length txs)
     once name =
-        count_sorted (is_earlier txs) name (numbers_below (length txs)) ∙ count_upto name (length txs)
+        count_sorted (is_earlier txs) name (numbers_below (length txs)) ∙ count_numbers_below name (length txs)
 
     stands_there : (a : ℕ) → a < length txs → has a (in_time txs) ≡ true
     stands_there a p =
-        has_sorted (is_earlier txs) a (numbers_below (length txs)) ∙ has_upto a (length txs) ∙ lt-ltb a (length txs) p
+        has_sorted (is_earlier txs) a (numbers_below (length txs)) ∙ has_numbers_below a (length txs) ∙ lt-ltb a (length txs) p
 
 -- So the law of accounts gives an order that explains the run.
 pub law_of_explanation : (k : Kind) → LawOfAccounts k → LawOfExplanation k

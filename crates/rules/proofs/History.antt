@@ -11,8 +11,8 @@ use Rattle.book.specs.Time.{Time, earlier}
 use Rattle.rules.specs.Lists.{has, last_of}
 use Rattle.rules.specs.Transactions.{Source, Transaction, transaction_named, writers}
 use Rattle.rules.specs.Transactions.{committed_source}
-use Rattle.rules.proofs.Replay.{found_value, writer, EachLoad}
-use Rattle.rules.proofs.Serial.{key, stamp_at, Right}
+use Rattle.rules.proofs.SerialAccount.{source_value, writer, EachLoad}
+use Rattle.rules.proofs.SerialOrders.{key, stamp_at, IsRightSource}
 
 -- At which stamp a warp's transaction holds a line, if it does.
 abbrev pub Holding : Type 0
@@ -41,7 +41,7 @@ module _ (k : Kind) where
     pub marks : (line : ℕ) → line < line_limit → earlier (k.read_mark s' line) (k.read_mark s line) ≡ false
     pub owners : (line : ℕ) → line < line_limit → k.owner s' line ≡ k.owner s line
 
-  pub record Taken (s s' : k.State) (w at t : ℕ) : Type 0 where
+  pub record Reserved (s s' : k.State) (w at t : ℕ) : Type 0 where
     pub stamps : (line : ℕ) → line < line_limit → k.write_stamp s line ≤ k.write_stamp s' line
     pub marks : (line : ℕ) → line < line_limit → earlier (k.read_mark s' line) (k.read_mark s line) ≡ false
     pub others : (line : ℕ) → line < line_limit → (line ≡ at → ⊥) → k.owner s' line ≡ k.owner s line
@@ -54,7 +54,7 @@ module _ (k : Kind) where
     pub line_low : at < line_limit
 
   -- Some lines that a warp holds are released.
-  pub record LetGo (H : Holding) (s s' : k.State) (w : ℕ) (gone : List ℕ) : Type 0 where
+  pub record Released (H : Holding) (s s' : k.State) (w : ℕ) (gone : List ℕ) : Type 0 where
     pub its : (line : ℕ) → has line gone ≡ true → (t : ℕ) × (H w line ≡ Some t)
     pub stamps : (line : ℕ) → line < line_limit → k.write_stamp s line ≤ k.write_stamp s' line
     pub marks : (line : ℕ) → line < line_limit → earlier (k.read_mark s' line) (k.read_mark s line) ≡ false
@@ -80,7 +80,7 @@ module _ (k : Kind) (first : Lines) where
     pub line_low : (line i : ℕ) → writer first txs line i ≡ true → line < line_limit
     pub there : (line i : ℕ) → writer first txs line i ≡ true → is_some (first line) ≡ true
     pub passes : (line i : ℕ) → writer first txs line i ≡ true → stamp_at first txs i < k.write_stamp s line
-    pub last : (line : ℕ) → lines line ≡ found_value first txs line (committed_source (last_of (writers txs line)))
+    pub last : (line : ℕ) → lines line ≡ source_value first txs line (committed_source (last_of (writers txs line)))
     pub same_lines : (line : ℕ) → is_some (lines line) ≡ is_some (first line)
     pub holder : (h line t : ℕ) → H h line ≡ Some t → Holder txs lines s h line t
     pub owner_holds : (line h : ℕ) → line < line_limit → k.owner s line ≡ Some h → (t : ℕ) × (H h line ≡ Some t)
@@ -90,7 +90,7 @@ module _ (k : Kind) (first : Lines) where
       (txs : List Transaction) (H : Holding) (s : k.State) (place stamp warp line v : ℕ) (f : Source)
       : Type 0
     where
-      pub right : Right first txs place stamp warp line v f
+      pub right : IsRightSource first txs place stamp warp line v f
       pub line_low : line < line_limit
       pub marked : earlier (k.read_mark s line) (stamp, warp) ≡ false
       pub held : (h t : ℕ) → H h line ≡ Some t → key stamp warp ≤ key t h
@@ -141,7 +141,7 @@ module _ (k : Kind) (first : Lines) where
         }
 
   module _
-      (txs : List Transaction) (H : Holding) (lines : Lines) (s s' : k.State) (w at t : ℕ) (g : Taken k s s' w at t)
+      (txs : List Transaction) (H : Holding) (lines : Lines) (s s' : k.State) (w at t : ℕ) (g : Reserved k s s' w at t)
     where
       hold_cases :
           (h line u : ℕ) → with_hold H w at t h line ≡ Some u
@@ -166,8 +166,8 @@ module _ (k : Kind) (first : Lines) where
           step true false q = e
           step false d q = e
 
-      pub core_taken : Core txs H lines s → is_some (lines at) ≡ true → Core txs (with_hold H w at t) lines s'
-      core_taken c there =
+      pub core_after_reservation : Core txs H lines s → is_some (lines at) ≡ true → Core txs (with_hold H w at t) lines s'
+      core_after_reservation c there =
           record {
             sorted = c.sorted;
             warps = c.warps;
@@ -234,10 +234,10 @@ module _ (k : Kind) (first : Lines) where
               let old = c.owner_holds line h l (sym (g.others line l p) ∙ e) in
               (old.0, hold_kept c h line old.0 old.1)
 
-      pub read_taken :
+      pub read_after_reservation :
           (place stamp warp line v : ℕ) (f : Source) → warp < 32 → ReadNow txs H s place stamp warp line v f
           → ReadNow txs (with_hold H w at t) s' place stamp warp line v f
-      read_taken place stamp warp line v f low r =
+      read_after_reservation place stamp warp line v f low r =
           record {
             right = r.right;
             line_low = r.line_low;
@@ -259,7 +259,7 @@ module _ (k : Kind) (first : Lines) where
 
   module _
       (txs : List Transaction) (H : Holding) (lines : Lines) (s s' : k.State) (w : ℕ) (gone : List ℕ)
-      (g : LetGo k H s s' w gone)
+      (g : Released k H s s' w gone)
     where
       pub still_held :
           (h line t : ℕ) → without_holds H w gone h line ≡ Some t
@@ -280,8 +280,8 @@ module _ (k : Kind) (first : Lines) where
           let b = (c.holder v line u q).owns in
           cc
 
-      pub core_let_go : Core txs H lines s → Core txs (without_holds H w gone) lines s'
-      core_let_go c =
+      pub core_after_release : Core txs H lines s → Core txs (without_holds H w gone) lines s'
+      core_after_release c =
           record {
             sorted = c.sorted;
             warps = c.warps;
@@ -337,10 +337,10 @@ module _ (k : Kind) (first : Lines) where
                 ap (λ b. cond b None (H h line)) (ap (λ b. eqb h w && b) q ∙ flat (eqb h w)) ∙ old.1,
               )
 
-      pub read_let_go :
+      pub read_after_release :
           (place stamp warp line v : ℕ) (f : Source) → ReadNow txs H s place stamp warp line v f
           → ReadNow txs (without_holds H w gone) s' place stamp warp line v f
-      read_let_go place stamp warp line v f r =
+      read_after_release place stamp warp line v f r =
           record {
             right = r.right;
             line_low = r.line_low;

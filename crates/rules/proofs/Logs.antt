@@ -15,7 +15,7 @@ use Rattle.rules.specs.State.{with_warp_row}
 use Rattle.rules.specs.Queue.{request_of, queue_without}
 use Rattle.rules.specs.Transactions.{Action, loaded, stored, last_own_store, is_written}
 use Rattle.rules.specs.Transactions.{transaction_stores}
-use Rattle.rules.proofs.ListFacts.{eqb_same, has_append}
+use Rattle.rules.proofs.ListFacts.{eqb_refl, has_append}
 
 -- The last value logged is the transaction's own.
 pub logged_own : (actions : List Action) (line : ℕ) → last_stored (transaction_stores actions) line ≡ last_own_store actions line
@@ -26,34 +26,34 @@ logged_own (stored s ∷ actions) line =
     ∙ ap (λ o. cond (eqb s.line line) (Some s.value) o) (logged_own actions line)
 
 -- The logged lines are those that the transaction stored to.
-has_push_new : (z : ℕ) (seen : List ℕ) (x : ℕ) → has z (push_new seen x) ≡ (has z seen || eqb x z)
-has_push_new z seen x = step (has x seen) refl
+has_push_new : (z : ℕ) (commits_seen : List ℕ) (x : ℕ) → has z (push_new commits_seen x) ≡ (has z commits_seen || eqb x z)
+has_push_new z commits_seen x = step (has x commits_seen) refl
   where
     or_false : (b : Bool) → (b || false) ≡ b
     or_false true = refl
     or_false false = refl
 
-    step : (b : Bool) → has x seen ≡ b → has z (cond b seen (seen ++ x ∷ [])) ≡ (has z seen || eqb x z)
-    step false e = has_append z seen (x ∷ []) ∙ ap (λ b. has z seen || b) (or_false (eqb x z))
+    step : (b : Bool) → has x commits_seen ≡ b → has z (cond b commits_seen (commits_seen ++ x ∷ [])) ≡ (has z commits_seen || eqb x z)
+    step false e = has_append z commits_seen (x ∷ []) ∙ ap (λ b. has z commits_seen || b) (or_false (eqb x z))
     step true e = ⊎_elim same other (cases_Bool (eqb x z))
       where
-        same : eqb x z ≡ true → has z seen ≡ (has z seen || eqb x z)
+        same : eqb x z ≡ true → has z commits_seen ≡ (has z commits_seen || eqb x z)
         same p =
-            let h : has z seen ≡ true = subst (λ y. has y seen ≡ true) (eqb-true x z p) e in
-            h ∙ sym (or_left (has z seen) (eqb x z) h)
+            let h : has z commits_seen ≡ true = subst (λ y. has y commits_seen ≡ true) (eqb-true x z p) e in
+            h ∙ sym (or_left (has z commits_seen) (eqb x z) h)
 
-        other : eqb x z ≡ false → has z seen ≡ (has z seen || eqb x z)
-        other p = sym (ap (λ b. has z seen || b) p ∙ or_false (has z seen))
+        other : eqb x z ≡ false → has z commits_seen ≡ (has z commits_seen || eqb x z)
+        other p = sym (ap (λ b. has z commits_seen || b) p ∙ or_false (has z commits_seen))
 
-has_distinct_from : (z : ℕ) (xs seen : List ℕ) → has z (fold push_new seen xs) ≡ (has z seen || has z xs)
-has_distinct_from z [] seen = flat (has z seen)
+has_distinct_from : (z : ℕ) (xs commits_seen : List ℕ) → has z (fold push_new commits_seen xs) ≡ (has z commits_seen || has z xs)
+has_distinct_from z [] commits_seen = flat (has z commits_seen)
   where
     flat : (b : Bool) → b ≡ (b || false)
     flat true = refl
     flat false = refl
-has_distinct_from z (x ∷ xs) seen =
-    has_distinct_from z xs (push_new seen x) ∙ ap (λ b. b || has z xs) (has_push_new z seen x)
-    ∙ regroup (has z seen) (eqb x z) (has z xs)
+has_distinct_from z (x ∷ xs) commits_seen =
+    has_distinct_from z xs (push_new commits_seen x) ∙ ap (λ b. b || has z xs) (has_push_new z commits_seen x)
+    ∙ regroup (has z commits_seen) (eqb x z) (has z xs)
   where
     regroup : (a b c : Bool) → ((a || b) || c) ≡ (a || (b || c))
     regroup true b c = refl
@@ -114,7 +114,7 @@ request_push (q ∷ queue) r v n = ap (λ o. cond (eqb q.warp v) (Some q) o) (re
 pub request_mine :
     (queue : List Request) (r : Request) → request_of queue r.warp ≡ None
     → request_of (queue ++ r ∷ []) r.warp ≡ Some r
-request_mine [] r e = ap (λ b. cond b (Some r) None) (eqb_same r.warp)
+request_mine [] r e = ap (λ b. cond b (Some r) None) (eqb_refl r.warp)
 request_mine (q ∷ queue) r e = step (eqb q.warp r.warp) e (request_mine queue r)
   where
     step :

@@ -8,7 +8,7 @@ use Rattle.rules.specs.Lists.{has}
 use Rattle.rules.specs.State.{WarpRow}
 use Rattle.rules.specs.Queue.{request_of, requests_on, has_smaller_stamp, inserted_by_stamp}
 use Rattle.rules.specs.Laws.{ProductCovers}
-use Rattle.rules.proofs.ListFacts.{eqb_same}
+use Rattle.rules.proofs.ListFacts.{eqb_refl}
 
 module _ (rows : List WarpRow) where
   -- A warp that is placed stands there, with all others.
@@ -76,7 +76,7 @@ in_line (q ∷ queue) w r e = step (eqb q.warp w) refl e (in_line queue w r)
         (λ b.
         has w
         (map warp_of (cond b (q ∷ requests_on queue r.line) (requests_on queue r.line))))
-        (ap (λ (x : Request). eqb x.line r.line) same ∙ eqb_same r.line)
+        (ap (λ (x : Request). eqb x.line r.line) same ∙ eqb_refl r.line)
         ∙ or_left (eqb q.warp w) (has w rest_of) p
     step false p h rest = later (eqb q.line r.line) (rest h)
 

@@ -12,12 +12,12 @@ use Rattle.rules.specs.Transactions.{Transaction}
 use Rattle.rules.specs.Ledger.{Ledger, ledger_of}
 use Rattle.rules.specs.Laws.{IsHolder, TablesAgree, LawOfTables}
 use Rattle.rules.proofs.Ledgers.{hold_in, hold_writes}
-use Rattle.rules.proofs.Invariant.{Running, Matches, Inv, holds_line}
+use Rattle.rules.proofs.Invariant.{Running, Matches, Invariant, holds_line}
 use Rattle.rules.proofs.Calls.{run_keeps, new_keeps}
 
 module _
     (k : Kind) (keeps : Keeps k) (first : Lines) (E : ℕ → ℕ → Type 0) (m : Machine k) (l : Ledger)
-    (I : Inv k first E m l)
+    (I : Invariant k first E m l)
   where
     runs : (w : ℕ) (tx : Transaction) → l.current w ≡ Some tx → Running (warp_row_of m w) tx
     runs w tx e = subst (Matches (warp_row_of m w)) e (I.warp_rows w)
@@ -57,7 +57,7 @@ module _
           its_stamp = λ w tx e. sym (runs w tx e).same_stamp;
           its_log = λ w tx e. (runs w tx e).same_log;
           held_line = owned;
-          held_count = λ line h o. I.tallied h o.0 o.1 line o.2;
+          held_count = λ line h o. I.counts h o.0 o.1 line o.2;
           free_line = free;
           free_count = λ line low none. uncounted line low (free line low none);
         }

@@ -15,7 +15,7 @@ use Rattle.rules.specs.Laws.{IsHolder, WaitsFor, Leads, free, onward, is_waiting
 use Rattle.rules.specs.Laws.{LawOfWaits}
 use Rattle.rules.proofs.Ledgers.{hold, hold_in, hold_writes}
 use Rattle.rules.proofs.Logs.{busy_low}
-use Rattle.rules.proofs.Invariant.{Matches, Blocked, Inv, holds_line}
+use Rattle.rules.proofs.Invariant.{Matches, Blocked, Invariant, holds_line}
 use Rattle.rules.proofs.Calls.{run_keeps, new_keeps, refused_stays}
 
 -- Counting: what passes a stricter test is counted less often.
@@ -71,7 +71,7 @@ counted_not_all p n z l e =
     let b = counted_most (λ x. true) n in
     omega arith
 
-module _ (k : Kind) (first : Lines) (m : Machine k) (l : Ledger) (I : Inv k first (λ v n. ⊥) m l) where
+module _ (k : Kind) (first : Lines) (m : Machine k) (l : Ledger) (I : Invariant k first (λ v n. ⊥) m l) where
   -- A waiting warp waits for the one holder of its line.
   next : (w : ℕ) → is_waiting_now m w ≡ true → (h : ℕ) × WaitsFor m l w h
   next w p =

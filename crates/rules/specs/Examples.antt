@@ -41,7 +41,7 @@ sample_commits s = (sample_ledger s).committed
 -- Two transactions, between an initial and a last memory, conflict. The first is earlier in logical
 -- time, and the accounts are equal only if it is executed first.
 pub record TransactionsAgreeInOneOrder (initial : Lines) (txs : List Transaction) (final : Lines) (a b : ℕ) : Type 0 where
-  pub clash : Conflict txs a b
+  pub conflict : Conflict txs a b
   pub in_time : is_earlier txs a b ≡ true
   pub agrees : EqualAccounts 2 (account_of txs final) (serial_account initial txs (a ∷ b ∷ []))
   pub differs : EqualAccounts 2 (account_of txs final) (serial_account initial txs (b ∷ a ∷ [])) → ⊥

@@ -15,16 +15,16 @@ use Rattle.rules.specs.Transactions.{is_read, transaction_stores, transaction_na
 use Rattle.rules.specs.Transactions.{committed_source}
 use Rattle.rules.specs.Account.{LoadResult, Account, load_results, load_result_alone}
 use Rattle.rules.specs.Account.{load_results_alone, account_after}
-use Rattle.rules.proofs.ListFacts.{eqb_sym, eqb_same, folded_append}
+use Rattle.rules.proofs.ListFacts.{eqb_sym, eqb_refl, fold_append}
 
 -- What a line holds after a transaction's stores are written.
-abbrev pub over : Option ℕ → Option ℕ → Option ℕ
-over None old = old
-over (Some v) old = option_map (λ _. v) old
+abbrev pub value_after_stores : Option ℕ → Option ℕ → Option ℕ
+value_after_stores None old = old
+value_after_stores (Some v) old = option_map (λ _. v) old
 
 pub written_at :
     (ls : Lines) (actions : List Action) (line : ℕ)
-    → lines_after_stores ls (transaction_stores actions) line ≡ over (last_own_store actions line) (ls line)
+    → lines_after_stores ls (transaction_stores actions) line ≡ value_after_stores (last_own_store actions line) (ls line)
 written_at ls [] line = refl
 written_at ls (loaded d ∷ actions) line = written_at ls actions line
 written_at ls (stored s ∷ actions) line =
@@ -41,22 +41,22 @@ written_at ls (stored s ∷ actions) line =
     twice u None = refl
     twice u (Some x) = refl
 
-    thrice : (o : Option ℕ) → option_map (λ _. s.value) (over o (ls line)) ≡ option_map (λ _. s.value) (ls line)
+    thrice : (o : Option ℕ) → option_map (λ _. s.value) (value_after_stores o (ls line)) ≡ option_map (λ _. s.value) (ls line)
     thrice None = refl
     thrice (Some u) = twice u (ls line)
 
     step :
-        (b : Bool) (o : Option ℕ) → before ≡ over o (ls line)
-        → cond b (option_map (λ _. s.value) before) before ≡ over (cond b (Some s.value) o) (ls line)
+        (b : Bool) (o : Option ℕ) → before ≡ value_after_stores o (ls line)
+        → cond b (option_map (λ _. s.value) before) before ≡ value_after_stores (cond b (Some s.value) o) (ls line)
     step true o e = ap (option_map (λ _. s.value)) e ∙ thrice o
     step false o e = e
 
 module _ (first : Lines) (txs : List Transaction) where
   -- The value of the store that a load found.
-  abbrev pub found_value : ℕ → Source → Option ℕ
-  found_value line own_store = None
-  found_value line (committed_store name) = last_own_store (transaction_named txs name).actions line
-  found_value line initial_memory = first line
+  abbrev pub source_value : ℕ → Source → Option ℕ
+  source_value line own_store = None
+  source_value line (committed_store name) = last_own_store (transaction_named txs name).actions line
+  source_value line initial_memory = first line
 
   abbrev pub writer : ℕ → ℕ → Bool
   writer line name = is_written (transaction_named txs name).actions line
@@ -82,10 +82,10 @@ module _ (first : Lines) (txs : List Transaction) where
   -- A line's value is its last writer's, or the first memory's.
   pub values_alone :
       (line : ℕ) (order : List ℕ) (a : Account) (o : Option ℕ)
-      → a.last_values line ≡ found_value line (committed_source o)
+      → a.last_values line ≡ source_value line (committed_source o)
       → ((name : ℕ) → writer line name ≡ true → is_some (a.last_values line) ≡ true)
       → (fold (account_after txs) a order).last_values line
-      ≡ found_value line (committed_source (fold (λ _ n. Some n) o (filter (writer line) order)))
+      ≡ source_value line (committed_source (fold (λ _ n. Some n) o (filter (writer line) order)))
   unfolding account_after
   values_alone line [] a o e there = e
   values_alone line (x ∷ order) a o e there =
@@ -93,17 +93,17 @@ module _ (first : Lines) (txs : List Transaction) where
       (λ p.
       values_alone line order (account_after txs a x) p)
     where
-      at_line : (account_after txs a x).last_values line ≡ over (last_own_store (transaction_named txs x).actions line) (a.last_values line)
+      at_line : (account_after txs a x).last_values line ≡ value_after_stores (last_own_store (transaction_named txs x).actions line) (a.last_values line)
       at_line = written_at a.last_values (transaction_named txs x).actions line
 
       goal : Option ℕ → List ℕ → Type 0
       goal p ws =
           (fold (account_after txs) (account_after txs a x) order).last_values line
-          ≡ found_value line (committed_source (fold (λ _ n. Some n) p ws))
+          ≡ source_value line (committed_source (fold (λ _ n. Some n) p ws))
 
       rest : Type 0
       rest =
-          (p : Option ℕ) → (account_after txs a x).last_values line ≡ found_value line (committed_source p)
+          (p : Option ℕ) → (account_after txs a x).last_values line ≡ source_value line (committed_source p)
           → ((name : ℕ) → writer line name ≡ true → is_some ((account_after txs a x).last_values line) ≡ true)
           → goal p (filter (writer line) order)
 
@@ -116,12 +116,12 @@ module _ (first : Lines) (txs : List Transaction) where
           → goal o (cond (is_some m) (x ∷ filter (writer line) order) (filter (writer line) order))
       step None q more =
           let same : (account_after txs a x).last_values line ≡ a.last_values line =
-          at_line ∙ ap (λ m. over m (a.last_values line)) q
+          at_line ∙ ap (λ m. value_after_stores m (a.last_values line)) q
           in
           more o (same ∙ e) (λ name w. ap is_some same ∙ there name w)
       step (Some v) q more =
           let same : (account_after txs a x).last_values line ≡ Some v =
-          at_line ∙ ap (λ m. over m (a.last_values line)) q
+          at_line ∙ ap (λ m. value_after_stores m (a.last_values line)) q
           ∙ some_mapped v (a.last_values line) (there x (ap is_some q))
           in
           more (Some x) (same ∙ sym q) (λ name w. ap is_some same)
@@ -144,9 +144,9 @@ module _ (first : Lines) (txs : List Transaction) where
       ≡ load_results_alone (fold (account_after txs) a p) (transaction_named txs i).actions
   unfolding account_after
   loads_alone i p q a h =
-      ap (λ (b : Account). b.loads i) (folded_append (account_after txs) a p (i ∷ q))
+      ap (λ (b : Account). b.loads i) (fold_append (account_after txs) a p (i ∷ q))
       ∙ loads_stay i q (account_after txs (fold (account_after txs) a p) i) h
-      ∙ ap (λ b. cond b (load_results_alone here (transaction_named txs i).actions) (here.loads i)) (eqb_same i)
+      ∙ ap (λ b. cond b (load_results_alone here (transaction_named txs i).actions) (here.loads i)) (eqb_refl i)
     where
       here : Account
       here = fold (account_after txs) a p
@@ -178,14 +178,14 @@ module _ (P : ℕ → ℕ → Source → Type 0) (a : Account) where
   abbrev there : ℕ → Source
   there line = committed_source (last_of (a.line_writers line))
 
-  pub gets_the_same :
+  pub loads_get_the_same :
       ((line v : ℕ) (f : Source) → P line v f → (a.last_values line ≡ Some v) × (there line ≡ f))
       → (actions : List Action) → EachLoad P actions → load_results actions ≡ load_results_alone a actions
-  gets_the_same same [] h = refl
-  gets_the_same same (loaded d ∷ actions) h =
+  loads_get_the_same same [] h = refl
+  loads_get_the_same same (loaded d ∷ actions) h =
       ap (λ g. g ∷ load_results actions) (step (last_own_store actions d.line) h.0)
       ∙ ap (λ l. load_result_alone (last_own_store actions d.line) (a.last_values d.line) (there d.line) ∷ l)
-      (gets_the_same same actions h.1)
+      (loads_get_the_same same actions h.1)
     where
       got : ℕ → Source → LoadResult
       got u g = record { value = Some u; source = g }
@@ -197,14 +197,14 @@ module _ (P : ℕ → ℕ → Source → Type 0) (a : Account) where
       step None p =
           let s = same d.line d.value d.source p in
           (λ i. record { value = sym s.0 i; source = sym s.1 i })
-  gets_the_same same (stored s ∷ actions) h = gets_the_same same actions h
+  loads_get_the_same same (stored s ∷ actions) h = loads_get_the_same same actions h
 
-  pub finds_the_same :
+  pub loads_find_the_same :
       (actions : List Action) → load_results actions ≡ load_results_alone a actions → EachLoad P actions
       → EachLoad (λ line v f. P line v f × (f ≡ there line)) actions
-  finds_the_same [] e h = tt
-  finds_the_same (loaded d ∷ actions) e h =
-      (step (last_own_store actions d.line) h.0 (cc), finds_the_same actions (cc) h.1)
+  loads_find_the_same [] e h = tt
+  loads_find_the_same (loaded d ∷ actions) e h =
+      (step (last_own_store actions d.line) h.0 (cc), loads_find_the_same actions (cc) h.1)
     where
       step :
           (o : Option ℕ) → AtLoad P d.line d.value d.source o
@@ -212,15 +212,15 @@ module _ (P : ℕ → ℕ → Source → Type 0) (a : Account) where
           → AtLoad (λ line v f. P line v f × (f ≡ there line)) d.line d.value d.source o
       step (Some u) p q = p
       step None p q = (p, ap (λ (g : LoadResult). g.source) q)
-  finds_the_same (stored s ∷ actions) e h = finds_the_same actions e h
+  loads_find_the_same (stored s ∷ actions) e h = loads_find_the_same actions e h
 
 -- A transaction that loaded a line and never stored to it found another's store there.
-pub found_elsewhere :
+pub read_source :
     (P : ℕ → ℕ → Source → Type 0) (line : ℕ) (actions : List Action) → is_read actions line ≡ true
     → last_own_store actions line ≡ None → EachLoad P actions → (v : ℕ) × (f : Source) × P line v f
-found_elsewhere P line [] r n h = absurd (both_ways false refl r)
-found_elsewhere P line (loaded d ∷ actions) r n h =
-    step (eqb d.line line) refl r (λ k. found_elsewhere P line actions k n h.1)
+read_source P line [] r n h = absurd (both_ways false refl r)
+read_source P line (loaded d ∷ actions) r n h =
+    step (eqb d.line line) refl r (λ k. read_source P line actions k n h.1)
   where
     step :
         (b : Bool) → eqb d.line line ≡ b → (b || is_read actions line) ≡ true
@@ -233,8 +233,8 @@ found_elsewhere P line (loaded d ∷ actions) r n h =
         in
         (d.value, d.source, subst (λ l. P l d.value d.source) same here)
     step false e k rest = rest k
-found_elsewhere P line (stored s ∷ actions) r n h =
-    found_elsewhere P line actions r (step (eqb s.line line) n) h
+read_source P line (stored s ∷ actions) r n h =
+    read_source P line actions r (step (eqb s.line line) n) h
   where
     step : (b : Bool) → cond b (Some s.value) (last_own_store actions line) ≡ None → last_own_store actions line ≡ None
     step true k = cc
@@ -255,5 +255,5 @@ each_read P R (loaded d ∷ actions) to h = (
         (o : Option ℕ) → AtLoad P d.line d.value d.source o
         → AtLoad (λ line v f. P line v f × R line) d.line d.value d.source o
     step (Some u) p = p
-    step None p = (p, to d.line (or_left (eqb d.line d.line) (is_read actions d.line) (eqb_same d.line)))
+    step None p = (p, to d.line (or_left (eqb d.line d.line) (is_read actions d.line) (eqb_refl d.line)))
 each_read P R (stored s ∷ actions) to h = each_read P R actions to h

@@ -11,7 +11,7 @@ use Rattle.book.specs.Meaning.{can_release, state_after_note, state_after_reserv
 use Rattle.book.specs.Meaning.{state_after_release}
 use Rattle.book.specs.Time.{Time, earlier}
 use Rattle.rules.specs.Lists.{has}
-use Rattle.rules.proofs.History.{mark_rises, Grown, Taken}
+use Rattle.rules.proofs.History.{mark_rises, Grown, Reserved}
 
 earlier_same : (t : Time) → earlier t t ≡ false
 earlier_same t = grind (arith, nat_tests)
@@ -89,24 +89,24 @@ module _ (k : Kind) (keeps : Keeps k) where
       step false e = refl
 
   -- A line taken.
-  pub record Took (s s' : k.State) (line t w : ℕ) : Type 0 where
+  pub record ReservedByCall (s s' : k.State) (line t w : ℕ) : Type 0 where
     pub good : k.Good s'
-    pub took : Taken k s s' w line t
+    pub took : Reserved k s s' w line t
     pub one_store : k.stores s' line ≡ 1
     pub counts : (at : ℕ) → at < line_limit → (at ≡ line → ⊥) → k.stores s' at ≡ k.stores s at
 
-  pub after_take :
+  pub after_reservation :
       (s : k.State) → k.Good s → (line t w : ℕ) → line < line_limit → t ≤ last_stamp → w < 32
       → k.owner s line ≡ None → k.has_slot s line ≡ true → k.write_stamp s line ≤ t
-      → earlier (t, w) (k.read_mark s line) ≡ false → Took s (state_after_reserve k s line (t, w)) line t w
-  after_take s good line t w a b c none slot below unread =
+      → earlier (t, w) (k.read_mark s line) ≡ false → ReservedByCall s (state_after_reserve k s line (t, w)) line t w
+  after_reservation s good line t w a b c none slot below unread =
       let can : can_reserve k s line (t, w) ≡ true =
       and_from (can_note k s line (t, w)) (not (is_reserved k s line) && k.has_slot s line) (sound line t w s a b c)
       (and_from (not (is_reserved k s line)) (k.has_slot s line)
       (not_from_false (is_reserved k s line) (not_reserved s good line a none)) slot)
       in
       let n = keeps.reserves s good line (t, w) can in
-      subst (λ b. Took s (cond b (k.reserve s line (t, w)) s) line t w) (sym can)
+      subst (λ b. ReservedByCall s (cond b (k.reserve s line (t, w)) s) line t w) (sym can)
       (record {
         good = n.0;
         took =

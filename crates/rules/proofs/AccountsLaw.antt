@@ -1,5 +1,6 @@
--- The law of accounts: of every run of a new machine, the account of its answers is the account of its committed
--- transactions run alone exactly in the orders that keep logical time among those that clash.
+-- The law of accounts, of every run of a new machine: the account of its answers is the account of
+-- its committed transactions executed alone exactly in the orders that keep conflicting
+-- transactions in logical time.
 use Rattle.std.proofs.Common.{◌≡◌, ℕ, [], Some, None, Option, sym, refl, ap, subst, inl, arith}
 use Rattle.protocol.specs.declared.fault.Fault.{Fault}
 use Rattle.memory.specs.Lines.{Lines}
@@ -17,7 +18,7 @@ use Rattle.rules.proofs.Ledgers.{hold}
 use Rattle.rules.proofs.Invariant.{Invariant}
 use Rattle.rules.proofs.Calls.{run_keeps, new_keeps, no_writer, refused_stays}
 
--- The four facts are part of the invariant.
+-- The invariant contains the four facts of SerialOrders.
 serial :
     (k : Kind) (first : Lines) (E : ℕ → ℕ → Type 0) (m : Machine k) (l : Ledger) → Invariant k first E m l
     → Serial first l.committed m.lines
@@ -36,7 +37,7 @@ serial k first E m l I =
       there = I.history.core.there;
     }
 
--- They hold of no transactions at all.
+-- They hold if there are no transactions.
 nothing_serial : (first : Lines) → Serial first [] first
 nothing_serial first =
     record {

@@ -1,4 +1,4 @@
--- What a book's promised meanings give the history of a run, call by call of the book.
+-- What each call of a book changes, from the promises that every book keeps.
 use Rattle.std.proofs.Common.{◌≡◌, ℕ, ◌+◌, ◌<◌, ◌≤◌, Bool, true, false, cond, not, ◌&&◌, ◌||◌, eqb}
 use Rattle.std.proofs.Common.{ltb, leb, List, [], ◌∷◌, None, fold, sym, refl, ap, ◌∙◌, subst}
 use Rattle.std.proofs.Common.{⊎_elim, arith}
@@ -22,7 +22,7 @@ module _ (k : Kind) (keeps : Keeps k) where
       and_from (ltb line line_limit) (leb t last_stamp && ltb w warp_limit) (lt-ltb line line_limit a)
       (and_from (leb t last_stamp) (ltb w warp_limit) (le-leb t last_stamp b) (lt-ltb w warp_limit c))
 
-  -- A noted read.
+  -- After a read is noted.
   pub record Noted (s s' : k.State) (line t w : ℕ) : Type 0 where
     pub good : k.Good s'
     pub grown : Grown k s s'
@@ -48,7 +48,7 @@ module _ (k : Kind) (keeps : Keeps k) where
         counts = λ at l. (n.1.stays at l).same_stores;
       })
 
-  -- A store added to a line.
+  -- After a store is added to the count of a line.
   pub record Added (s s' : k.State) (line : ℕ) : Type 0 where
     pub good : k.Good s'
     pub grown : Grown k s s'
@@ -88,7 +88,7 @@ module _ (k : Kind) (keeps : Keeps k) where
           cc
       step false e = refl
 
-  -- A line taken.
+  -- After a line is reserved.
   pub record ReservedByCall (s s' : k.State) (line t w : ℕ) : Type 0 where
     pub good : k.Good s'
     pub took : Reserved k s s' w line t
@@ -126,7 +126,7 @@ module _ (k : Kind) (keeps : Keeps k) where
         counts = λ at l e. (n.1.stays at l e).same_stores;
       })
 
-  -- Lines released.
+  -- After some lines are released.
   pub record Freed (s s' : k.State) (lines : List ℕ) : Type 0 where
     pub good : k.Good s'
     pub stamps : (line : ℕ) → line < line_limit → k.write_stamp s line ≤ k.write_stamp s' line

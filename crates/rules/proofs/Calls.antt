@@ -1,4 +1,5 @@
--- Every call keeps the invariant of a run, refused ones too, and so does every run of a new machine.
+-- Every call keeps the invariant of a run, refused ones too, and so does every run of a new
+-- machine.
 use Rattle.std.proofs.Common.{◌≡◌, ℕ, zero, suc, ◌<◌, ◌≤◌, Bool, true, false, cond, ◌&&◌, eqb, ltb}
 use Rattle.std.proofs.Common.{leb, ◌⊎◌, List, [], ◌∷◌, map, length, get_or, is_some, Some, None}
 use Rattle.std.proofs.Common.{fold, Option, sym, refl, ap, ◌∙◌, subst, arith}
@@ -73,7 +74,7 @@ begin_idle Open e = refused _ e
 begin_idle Waiting e = refused _ e
 begin_idle (Settled outcome) e = refused _ e
 
--- A warp that may go on.
+-- A warp whose transaction can go on.
 abbrev GoesOn : Phase → Type 0
 GoesOn p = (is_idle p ≡ false) × (is_waiting p ≡ false)
 
@@ -114,7 +115,7 @@ module _ (k : Kind) (first : Lines) (keeps : Keeps k) (policy : Policy k) (E₀ 
     E v n = E₀
 
     module _ (m : Machine k) (l : Ledger) (I : Invariant k first E m l) (w : ℕ) where
-      -- What a call leaves, with what the account hears of it.
+      -- What a call leaves, and the ledger after it.
       abbrev Kept : Op → Step k → Type 0
       Kept op s =
           Invariant k first E s.machine (fold ledger_after_settled (ledger_after_reply l w (warp_row_of m w).stamp op s.answer) s.settled)
@@ -321,7 +322,7 @@ new_keeps k keeps E₀ lines s good stamps e =
       quiet = λ w p. refl;
     })
 
--- A refused call changes nothing, in the machine and in the account.
+-- A refused call changes neither the machine nor the ledger.
 pub refusal_changes_nothing :
     (k : Kind) (policy : Policy k) (m : Machine k) (l : Ledger) (call : Call) (f : Fault) → fault_of m call ≡ Some f
     → ((step policy m call).machine ≡ m) × (ledger_after_event l (event_of policy m call) ≡ l)
@@ -336,7 +337,7 @@ refusal_changes_nothing k policy m l call f e = (
       e,
 )
 
--- A machine that was refused has no warps, and stays as it is.
+-- A machine that was refused when it was made has no warps, and no call changes it.
 no_warps_refuse :
     (k : Kind) (m : Machine k) (call : Call) → m.warp_rows ≡ [] → (f : Fault) × (fault_of m call ≡ Some f)
 no_warps_refuse k m call none = (

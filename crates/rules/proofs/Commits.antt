@@ -1,4 +1,4 @@
--- A transaction commits: what holds between transactions, book and memory still holds with one commit more.
+-- What holds between committed transactions, book and memory still holds after one more commit.
 use Rattle.std.proofs.Common.{◌≡◌, ℕ, suc, ◌<◌, ◌≤◌, Bool, true, false, cond, eqb, ◌⊎◌, List, []}
 use Rattle.std.proofs.Common.{◌∷◌, ◌++◌, length, is_some, Some, None, filter, Option, sym, refl, ap}
 use Rattle.std.proofs.Common.{◌∙◌, subst, inl, inr, arith}
@@ -50,7 +50,7 @@ module _ (first : Lines) (txs : List Transaction) (tx : Transaction) where
   pub named_new : transaction_named with_commit n ≡ tx
   named_new = get_or_at txs tx [] no_transaction n refl
 
-  -- A writer is an old one or the new one.
+  -- A writer is one of the earlier commits or the new one.
   pub writer_cases :
       (line j : ℕ) → writer first with_commit line j ≡ true
       → ((j < n) × (writer first txs line j ≡ true)) ⊎ ((j ≡ n) × (is_written tx.actions line ≡ true))
@@ -93,7 +93,7 @@ module _ (first : Lines) (txs : List Transaction) (tx : Transaction) where
           ap (λ (t : Transaction). is_written t.actions line)
           (named_old z (ltb-true z n (sym (has_numbers_below z n) ∙ h))))
 
-  -- What was found is still what it was.
+  -- The value of a source does not change.
   found_old :
       (line : ℕ) (f : Source) → NamesWriter first txs f line
       → source_value first with_commit line f ≡ source_value first txs line f
@@ -114,7 +114,8 @@ module _ (first : Lines) (txs : List Transaction) (tx : Transaction) where
   commits_seen_low line (committed_store j) w = writer_below first txs line j w
   commits_seen_low line initial_memory u = omega arith
 
-  -- A load that found the right store still did, if the new writer is later than it in logical time.
+  -- A load that found the right store still has, if the new writer is later than it in logical
+  -- time.
   pub right_source_with_commit :
       (place place' stamp warp line v : ℕ) (f : Source) → IsRightSource first txs place stamp warp line v f
       → (place' ≡ place) ⊎ ((place ≡ n) × (place' ≡ suc n))
@@ -167,7 +168,8 @@ module _ (first : Lines) (txs : List Transaction) (tx : Transaction) where
 module _
     (k : Kind) (first : Lines) (txs : List Transaction) (H : Holding) (lines : Lines) (s : k.State) (tx : Transaction)
   where
-    -- What holds of a line that a transaction is about to commit a store to: nobody holds it any more.
+    -- What holds of a line that a transaction is about to commit a store to. The line is released
+    -- already.
     pub record ReadyToCommit (line : ℕ) : Type 0 where
       pub line_low : line < line_limit
       pub there : is_some (lines line) ≡ true
@@ -298,7 +300,7 @@ module _
                 let a = (c.holder h line t e).above j p.1 in let b = stamp_old first txs tx j p.0 in omega arith
             above_now j (inr p) = absurd ((ready line p.1).nobody h t e)
 
-    -- A load, likewise.
+    -- What holds of a load still holds after the commit.
     pub read_with_commit :
         (place place' stamp warp line v : ℕ) (f : Source) → ReadNow k first txs H s place stamp warp line v f
         → (place' ≡ place) ⊎ ((place ≡ length txs) × (place' ≡ suc (length txs)))

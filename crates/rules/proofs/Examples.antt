@@ -1,4 +1,4 @@
--- The examples, by computing the runs.
+-- The examples hold: each run is computed, and its accounts are compared.
 use Rattle.std.proofs.Common.{◌≡◌, ℕ, zero, suc, ◌<◌, ◌≤◌, Bool, true, false, eqb, List, [], ◌∷◌}
 use Rattle.std.proofs.Common.{length, Some, None, Option, sym, refl, ap, ◌∙◌, subst, arith, lit<}
 use Rattle.std.proofs.Common.{lit≤}
@@ -31,13 +31,13 @@ use Rattle.rules.specs.Examples.{StampKeptUntilFetched, EarlyStampBreaksWaits}
 use Rattle.rules.specs.Examples.{LostUpdateUnexplained}
 use Rattle.rules.proofs.SerialAccount.{writers_alone}
 
--- Two names.
+-- A fact for each of two names.
 for_each_of_two : (P : ℕ → Type 0) → P 0 → P 1 → (n : ℕ) → n < 2 → P n
 for_each_of_two P a b zero l = a
 for_each_of_two P a b (suc zero) l = b
 for_each_of_two P a b (suc (suc n)) l = absurd (omega arith)
 
--- The value that a list of loads begins with.
+-- The value of the first of some loads.
 abbrev first_value : List LoadResult → Option ℕ
 first_value [] = None
 first_value (g ∷ rest) = g.value
@@ -52,15 +52,15 @@ pub settled_load_found : SettledLoadSeesCommit
 unfolding run_with_call step_by_verdict served_on_free_line after_withdrawal after_settling after_try after_turn_with after_turns without_lines after_giving_up after_end with_request_queued fetched_step ledger_after_event
 settled_load_found = refl
 
--- Where the other account starts.
+-- The account before any transaction is executed alone.
 abbrev nothing : Account
 nothing = record { loads = λ n. []; last_values = word_lines (7 ∷ []); line_writers = λ line. [] }
 
--- What a name's loads got, in the run and alone.
+-- A transaction's loads get the same alone as in the run.
 abbrev SameLoads : List Transaction → Lines → List ℕ → ℕ → Type 0
 SameLoads txs memory order n = (account_of txs memory).loads n ≡ (serial_account (word_lines (7 ∷ [])) txs order).loads n
 
--- From what a run commits and leaves, written out, to the run.
+-- What is shown of transactions and a memory that are written out holds of the run that gives them.
 run_agrees :
     (s : Sample) (txs : List Transaction) (memory : Lines) (a b : ℕ) → sample_commits s ≡ txs → length txs ≡ 2
     → (sample_run s).machine.lines ≡ memory → TransactionsAgreeInOneOrder (word_lines s.values) txs memory a b → RunAgreesInOneOrder s a b
@@ -72,7 +72,7 @@ run_agrees s txs memory a b e n m h =
           (subst (λ x. TransactionsAgreeInOneOrder (word_lines s.values) x memory a b) (sym e) h);
     }
 
--- Two write one line.
+-- Two transactions store to one line.
 abbrev two_writers_txs : List Transaction
 two_writers_txs =
     record { stamp = 0; warp = 0; actions = stored (log_entry 0 8) ∷ [] }
@@ -116,7 +116,7 @@ two_writers_apart =
     run_agrees two_writers two_writers_txs two_writers_memory 0 1
     two_writers_commits refl two_writers_leaves two_writers_case
 
--- One writes a line, and a later one reads it.
+-- One transaction stores to a line, and a later one loads it.
 abbrev writer_reader_txs : List Transaction
 writer_reader_txs =
     record { stamp = 0; warp = 0; actions = stored (log_entry 0 8) ∷ [] }
@@ -157,7 +157,7 @@ writer_reader_apart =
     run_agrees writer_reader writer_reader_txs writer_reader_memory 0 1
     writer_reader_commits refl writer_reader_leaves writer_reader_case
 
--- One reads a line, and a later one writes it and commits first.
+-- One transaction loads a line, and a later one stores to it and commits first.
 abbrev reader_writer_txs : List Transaction
 reader_writer_txs =
     record { stamp = 5; warp = 1; actions = stored (log_entry 0 8) ∷ [] }
@@ -198,7 +198,7 @@ reader_writer_apart =
     run_agrees reader_writer reader_writer_txs reader_writer_memory 1 0
     reader_writer_commits refl reader_writer_leaves reader_writer_case
 
--- One warp, twice at one stamp.
+-- One warp commits two transactions at one stamp.
 abbrev same_stamp_txs : List Transaction
 same_stamp_txs =
     record { stamp = 5; warp = 0; actions = loaded (load_action 0 7 initial_memory) ∷ [] }
@@ -246,12 +246,13 @@ lost_update_unexplained = (
   λ e. seven_nine (ap first_value (e.same_loads 0 (omega arith))),
 )
 
--- What a warp's transaction, if it has one, stored to.
+-- A warp's transaction, if it has one, stored to the line.
 abbrev stores_in : Option Transaction → ℕ → Bool
 stores_in None line = false
 stores_in (Some tx) line = is_written tx.actions line
 
--- Of four warps, and no more with a transaction, one alone holds a line.
+-- If only four warps have transactions and three of them do not hold the line, the fourth is its
+-- only holder.
 four :
     (P : ℕ → Type 0) → P 0 → P 1 → P 2 → P 3 → ((v : ℕ) → 4 ≤ v → P v) → (v : ℕ) → P v
 four P a b c d rest zero = a
@@ -274,7 +275,7 @@ only_holder l line h low no_more a b c d v o =
     beyond v high =
         ap (λ t. stores_in t line) (no_more v high) ∙ sym (ne_eqb v h (λ e. omega arith))
 
--- A chain of waits: what its warps have done.
+-- The transactions of the warps in the chain of waits.
 chain_ends : (v : ℕ) → 4 ≤ v → (sample_ledger chain).current v ≡ None
 unfolding run_with_call step_by_verdict served_on_free_line with_request_queued ledger_after_event
 chain_ends v high = grind (arith, nat_tests)
@@ -323,7 +324,7 @@ free_0 = refl
 pub chain_of_three : ChainOfThree
 chain_of_three = onward waits_3 (onward waits_2 (onward waits_1 (free free_0)))
 
--- A holder whose request came out as gone keeps its stamp until it fetches.
+-- A holder whose request was aborted keeps its stamp until it fetches the outcome.
 holder_ends : (v : ℕ) → 4 ≤ v → (sample_ledger lost_holder).current v ≡ None
 unfolding run_with_call step_by_verdict served_on_free_line after_withdrawal after_settling after_try after_turn_with after_turns without_lines after_giving_up after_end with_request_queued ledger_after_event
 holder_ends v high = grind (arith, nat_tests)
@@ -347,7 +348,8 @@ free_2 = refl
 pub stamp_kept : StampKeptUntilFetched
 stamp_kept = onward kept_3 (free free_2)
 
--- If it takes the next one before, the warp that waits for it has the smaller stamp, and waits for no smaller one.
+-- If it takes the next stamp before that, the warp that waits for it has the smaller stamp, and so
+-- does not wait for a smaller one.
 no_way_on :
     (m : Machine exact) (l : Ledger) (w v steps : ℕ) (r : Request) → is_waiting_now m w ≡ true
     → request_of m.queue w ≡ Some r → IsHolder l r.line v

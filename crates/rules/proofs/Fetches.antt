@@ -1,5 +1,6 @@
--- What a fetch answers is what joined the account at the call that let its warp's request come out: by an invariant of
--- phases, transactions and requests that came out, which needs nothing of the book.
+-- The law of fetches: a fetch returns the outcome that was recorded in the ledger at the call that
+-- settled its warp's request. The invariant links phases, transactions and settled requests, and
+-- needs nothing of the book.
 use Rattle.std.proofs.Common.{◌≡◌, ◌≢◌, ℕ, zero, suc, ◌≤◌, cond, eqb, ◌⊎◌, List, [], ◌∷◌, ◌++◌, map}
 use Rattle.std.proofs.Common.{length, set, Ok, Some, None, fold, Option, sym, refl, ap, ◌∙◌, subst}
 use Rattle.std.proofs.Common.{inl, inr, ⊎_elim, arith, length-set, append_assoc}
@@ -51,7 +52,7 @@ use Rattle.rules.specs.Ledger.{ledger_after_event, new_ledger, ledger_of}
 use Rattle.rules.specs.Laws.{HasJoined, FetchReturns, FetchesReturn, LawOfFetches}
 use Rattle.rules.proofs.ListFacts.{fold_append}
 
--- A row that is put among others, if it has a place there, and what stays.
+-- A fact about the phase of a row after it is replaced. A warp that has no row counts as idle.
 put_phase :
     (rows : List WarpRow) (w : ℕ) (r : WarpRow) (P : Phase → Type 0) → P Idle → P r.phase
     → P (warp_row_at (set rows w r) w).phase
@@ -71,7 +72,7 @@ phase_kept :
     → (warp_row_at (set rows w r) v).phase ≡ (warp_row_at rows v).phase
 phase_kept rows w r v n = ap (λ (x : WarpRow). x.phase) (get_or-set_other rows w v r (idle_row 0) n)
 
--- A row that keeps its phase.
+-- A row is replaced by one in the same phase.
 phase_stays :
     (rows : List WarpRow) (w : ℕ) (r : WarpRow) → r.phase ≡ (warp_row_at rows w).phase → (v : ℕ)
     → (warp_row_at (set rows w r) v).phase ≡ (warp_row_at rows v).phase
@@ -91,7 +92,7 @@ phase_stays rows w r same v =
     past : length rows ≤ w → length (set rows w r) ≤ w
     past high = omega (arith, length-set rows w r)
 
--- One warp's transaction changes, and the others' stay.
+-- One warp's transaction is replaced, and the others stay.
 current_here : (l : Ledger) (w : ℕ) (o : Option Transaction) → (with_current l w o).current w ≡ o
 current_here l w o = ap (λ b. cond b o (l.current w)) (eq-eqb w w refl)
 
@@ -111,7 +112,7 @@ joined_here l w action tx mine =
     current_here l w (option_map (λ t. with_action t (action t)) (l.current w))
     ∙ ap (option_map (λ t. with_action t (action t))) mine
 
--- Which outcomes a request may come out with.
+-- The outcomes that a request may get.
 abbrev Fits : Access → Outcome → Type 0
 Fits Read (Value value) = Unit {0}
 Fits Read Stored = ⊥
@@ -162,13 +163,13 @@ outcome_keeps_others l w line (Write new) (Value value) v n = refl
 outcome_keeps_others l w line (Write new) Stored v n = current_there l w _ v n
 outcome_keeps_others l w line (Write new) (OutcomeGone cause next) v n = refl
 
--- A request that has joined is of a warp that has a transaction.
+-- The warp of a request that has joined has a transaction.
 joined_has : (o : Option Transaction) (s : SettledRequest) (outcome : Outcome) → HasJoined o s outcome → Has o
 joined_has o s (Value value) j = (j.2.0, j.2.2)
 joined_has o s Stored j = (j.2.0, j.2.2)
 joined_has o s (OutcomeGone cause next) j = j
 
--- The last that came out, when one more comes out.
+-- The last settled request of a warp after one more is settled.
 last_here :
     (settled : List SettledRequest) (s : SettledRequest) → last_settled_request (settled ++ s ∷ []) s.warp ≡ Some s
 last_here settled s =
@@ -182,7 +183,7 @@ last_there settled s v n =
     fold_push (λ found (x : SettledRequest). cond (eqb x.warp v) (Some x) found) None settled s
     ∙ ap (λ b. cond b (Some s) (last_settled_request settled v)) (ne_eqb s.warp v (λ e. n (sym e)))
 
--- What a call that is not refused says of its warp.
+-- What is known of a warp whose call is not refused.
 phase_not_refused :
     (a : Option Fault) (o : Option Refusal) (n : ℕ) (b : Option Fault)
     → option_or a (option_or (refusal_fault o n) b) ≡ None → o ≡ None
@@ -207,7 +208,7 @@ abbrev op_of : Access → ℕ → Op
 op_of Read line = Load line
 op_of (Write value) line = Store line value
 
--- What a warp that waits for a line waits to do.
+-- A warp with an access to retry waits.
 waits_if :
     (p : Phase) (o : Option Access) (access : Access) → cond (is_waiting p) o None ≡ Some access → p ≡ Waiting
 waits_if Idle o access e = absurd (cc)
@@ -215,8 +216,8 @@ waits_if Open o access e = absurd (cc)
 waits_if Waiting o access e = refl
 waits_if (Settled outcome) o access e = absurd (cc)
 
--- In the middle of a call, after some events, of a warp with its transaction now, and the request of its that came out
--- last at this call: it came out now, or before, and then nothing has changed.
+-- In the middle of a call, for a warp with an outcome to fetch: its request was settled at this
+-- call, or else it was settled before and its transaction has not changed since.
 record Now (current : Option Transaction) (here : Option SettledRequest) (outcome : Outcome) : Type 0 where
   request : SettledRequest
   settled_there : here ≡ Some request
@@ -242,7 +243,7 @@ module _ (events : List Event) where
       subst (λ x. PhaseAgrees w x s' p') (sym a)
       (subst (λ x. PhaseAgrees w o x p') (sym b) (subst (PhaseAgrees w o s) (sym c) h))
 
-  -- A fetch of an outcome finds a transaction.
+  -- A warp with an outcome to fetch has a transaction.
   settled_has :
       (w : ℕ) (o : Option Transaction) (s : Option SettledRequest) (outcome : Outcome) → PhaseAgrees w o s (Settled outcome)
       → Has o
@@ -255,11 +256,11 @@ module _ (events : List Event) where
       (had.0, before.unchanged ∙ t.unchanged ∙ had.1)
 
   module _ {k : Kind} where
-    -- So it is of every warp.
+    -- This is known of every warp.
     abbrev Known : Machine k → (ℕ → Option Transaction) → (ℕ → Option SettledRequest) → Type 0
     Known m current here = (w : ℕ) → PhaseAgrees w (current w) (here w) (warp_row_of m w).phase
 
-    -- One warp moves.
+    -- One warp changes.
     moves :
         (m m' : Machine k) (current current' : ℕ → Option Transaction) (here here' : ℕ → Option SettledRequest) (w : ℕ)
         → Known m current here
@@ -274,7 +275,7 @@ module _ (events : List Event) where
         (warp_row_of m' v).phase (currents v n) (last v n) (phases v n) (known v))
         (cases_eq v w)
 
-    -- A request comes out.
+    -- A request is settled.
     settling_phase :
         (m : Machine k) (w : ℕ) (outcome : Outcome) (P : Phase → Type 0) → P Idle → P (Settled outcome)
         → P (warp_row_of (after_settling m w outcome) w).phase
@@ -291,7 +292,7 @@ module _ (events : List Event) where
         ∙ phase_kept m.warp_rows w (row_in_phase (warp_row_of m w) Open) v n
 
     module _ (start : Ledger) where
-      -- What is known in the middle of the tries of a call.
+      -- What is known in the middle of the retries of a call.
       abbrev ledger_after_tries : AfterTries k → Ledger
       ledger_after_tries st = fold ledger_after_settled start st.settled
 
@@ -328,7 +329,7 @@ module _ (events : List Event) where
             joined = outcome_joined (ledger_after_tries st) w line access outcome fits has;
           }))))
 
-      -- What is served leaves every phase.
+      -- Serving a request changes no phase.
       served_phases :
           (m : Machine k) (w line : ℕ) (access : Access) (v : ℕ)
           → (warp_row_of (served_on_free_line m w line access).machine v).phase ≡ (warp_row_of m v).phase
@@ -384,7 +385,7 @@ module _ (events : List Event) where
           lines_known policy lines (after_turns policy st line)
           (turns_known line (policy.turns st.machine line) st known)
 
-      -- The end of a warp's transaction, with all tries.
+      -- The end of a warp's transaction, with all retries.
       ends_known :
           (policy : Policy k) (m : Machine k) (w stamp : ℕ) (current : ℕ → Option Transaction)
           → Known m current (λ v. None)
@@ -399,13 +400,13 @@ module _ (events : List Event) where
           (put_phase m.warp_rows w (idle_row stamp) (PhaseAgrees w (start.current w) None) tt tt))
 
     module _ (policy : Policy k) (m : Machine k) (l : Ledger) (known : Known m l.current (λ v. None)) (w : ℕ) where
-      -- What a call leaves, with what the account hears of it.
+      -- What is known after a call.
       abbrev After : Op → Step k → Type 0
       After op s =
           Known s.machine (fold ledger_after_settled (ledger_after_reply l w (warp_row_of m w).stamp op s.answer) s.settled).current
           (last_settled_request s.settled)
 
-      -- One row is put, with its warp's transaction.
+      -- One warp's row and transaction are replaced.
       puts_known :
           (r : WarpRow) (l' : Ledger) → ((v : ℕ) → (v ≡ w → ⊥) → l'.current v ≡ l.current v)
           → PhaseAgrees w (l'.current w) None r.phase
@@ -494,7 +495,7 @@ module _ (events : List Event) where
             accepted_known policy m l known call.warp call.op
             (phase_not_refused _ (phase_refuses (warp_row_of m call.warp).phase call.op) _ _ e)
 
-    -- What a fetch is answered, where it is not told to wait.
+    -- The answer to a fetch that is not told to wait.
     fetch_answer :
         (policy : Policy k) (m : Machine k) (w : ℕ) (outcome : Outcome) (answer : Answer)
         → (fetched_step policy m w outcome).answer ≡ Ok answer → answer ≡ answer_of outcome
@@ -600,7 +601,7 @@ phase_agrees_next events e w here same (Settled outcome) (inr before) =
       unchanged = refl;
     })
 
--- One event more is the last, or the list was split before.
+-- A list with one more element is split at that element or before it.
 split_last :
     {A : Type 0} (xs before after : List A) (e x : A) → xs ++ e ∷ [] ≡ before ++ x ∷ after
     → ((before ≡ xs) × (x ≡ e)) ⊎ ((rest : List A) × (xs ≡ before ++ x ∷ rest))

@@ -1,4 +1,5 @@
--- What holds between the transactions of a run, the book and the memory, and how each small move keeps it.
+-- What holds between the transactions of a run, the book and the memory, and how each change of the
+-- book keeps it.
 use Rattle.std.proofs.Common.{◌≡◌, ℕ, ◌<◌, ◌≤◌, Bool, true, false, cond, ◌&&◌, eqb, ◌⊎◌, List}
 use Rattle.std.proofs.Common.{length, is_some, Some, None, Option, sym, refl, ap, ◌∙◌, subst, inl}
 use Rattle.std.proofs.Common.{inr, arith}
@@ -14,11 +15,11 @@ use Rattle.rules.specs.Transactions.{committed_source}
 use Rattle.rules.proofs.SerialAccount.{source_value, writer, EachLoad}
 use Rattle.rules.proofs.SerialOrders.{key, stamp_at, IsRightSource}
 
--- At which stamp a warp's transaction holds a line, if it does.
+-- The stamp at which a warp's transaction holds a line, if it holds it.
 abbrev pub Holding : Type 0
 Holding = ℕ → ℕ → Option ℕ
 
--- Times in order, by numbers.
+-- Logical times as numbers, and read marks between them.
 pub mark_rises : (a b c : Time) → earlier a c ≡ false → earlier b a ≡ false → earlier b c ≡ false
 mark_rises a b c p q = grind (arith, nat_tests)
 
@@ -26,16 +27,16 @@ pub key_rises :
     (s w t v : ℕ) (m : Time) → w < 32 → earlier m (s, w) ≡ false → earlier (t, v) m ≡ false → key s w ≤ key t v
 key_rises s w t v m l p q = grind (arith, nat_tests)
 
--- A warp takes a line that is nobody's.
+-- A warp reserves a line that nobody holds.
 abbrev pub with_hold : Holding → ℕ → ℕ → ℕ → Holding
 with_hold H w at t h line = cond (eqb h w && eqb line at) (Some t) (H h line)
 
--- A warp lets some lines go.
+-- A warp releases some lines.
 abbrev pub without_holds : Holding → ℕ → List ℕ → Holding
 without_holds H w gone h line = cond (eqb h w && has line gone) None (H h line)
 
 module _ (k : Kind) where
-  -- The book moves on: no told stamp gets earlier, no owner changes.
+  -- The book changes so that no write stamp and no read mark gets smaller, and no owner changes.
   pub record Grown (s s' : k.State) : Type 0 where
     pub stamps : (line : ℕ) → line < line_limit → k.write_stamp s line ≤ k.write_stamp s' line
     pub marks : (line : ℕ) → line < line_limit → earlier (k.read_mark s' line) (k.read_mark s line) ≡ false
@@ -53,7 +54,7 @@ module _ (k : Kind) where
     pub warp_low : w < 32
     pub line_low : at < line_limit
 
-  -- Some lines that a warp holds are released.
+  -- The book releases some lines that a warp holds.
   pub record Released (H : Holding) (s s' : k.State) (w : ℕ) (gone : List ℕ) : Type 0 where
     pub its : (line : ℕ) → has line gone ≡ true → (t : ℕ) × (H w line ≡ Some t)
     pub stamps : (line : ℕ) → line < line_limit → k.write_stamp s line ≤ k.write_stamp s' line
@@ -62,7 +63,8 @@ module _ (k : Kind) where
     pub others : (line : ℕ) → line < line_limit → has line gone ≡ false → k.owner s' line ≡ k.owner s line
 
 module _ (k : Kind) (first : Lines) where
-  -- Who holds a line: the book's owner, with a stamp below the line's write stamp and above every writer's.
+  -- A warp that holds a line: it is the line's owner in the book, and its stamp is below the line's
+  -- write stamp and above every writer's.
   pub record Holder (txs : List Transaction) (lines : Lines) (s : k.State) (h line t : ℕ) : Type 0 where
     pub warp_low : h < 32
     pub line_low : line < line_limit
@@ -71,7 +73,7 @@ module _ (k : Kind) (first : Lines) where
     pub there : is_some (lines line) ≡ true
     pub above : (j : ℕ) → writer first txs line j ≡ true → stamp_at first txs j < t
 
-  -- Writers, holders and memory.
+  -- What holds of writers, holders and memory.
   pub record Core (txs : List Transaction) (H : Holding) (lines : Lines) (s : k.State) : Type 0 where
     pub sorted :
         (line i j : ℕ) → i < j → writer first txs line i ≡ true → writer first txs line j ≡ true
@@ -85,7 +87,7 @@ module _ (k : Kind) (first : Lines) where
     pub holder : (h line t : ℕ) → H h line ≡ Some t → Holder txs lines s h line t
     pub owner_holds : (line h : ℕ) → line < line_limit → k.owner s line ≡ Some h → (t : ℕ) × (H h line ≡ Some t)
 
-  -- A load of a transaction at a place, a stamp and a warp.
+  -- What holds of a load by a transaction with a place, a stamp and a warp.
   pub record ReadNow
       (txs : List Transaction) (H : Holding) (s : k.State) (place stamp warp line v : ℕ) (f : Source)
       : Type 0
@@ -273,7 +275,7 @@ module _ (k : Kind) (first : Lines) where
           step true p false q r = (λ x y. both_ways (has line gone) q y, r)
           step false p c q r = (λ x y. eqb-false h w p x, r)
 
-      -- Two warps do not hold one line.
+      -- No two warps hold the same line.
       pub one_holder : Core txs H lines s → (h v line t u : ℕ) → H h line ≡ Some t → H v line ≡ Some u → h ≡ v
       one_holder c h v line t u p q =
           let a = (c.holder h line t p).owns in

@@ -1,4 +1,5 @@
--- The invariant of a run: machine, account and waits, and how moves of one warp keep it.
+-- The invariant of a run, which links machine, ledger and waiting requests, and how a change of one
+-- warp keeps it.
 use Rattle.std.proofs.Common.{◌≡◌, ℕ, ◌<◌, ◌≤◌, Bool, true, false, cond, eqb, ◌⊎◌, ◌∷◌, length}
 use Rattle.std.proofs.Common.{is_some, Some, None, Option, sym, refl, ap, ◌∙◌, subst, inl, inr}
 use Rattle.std.proofs.Common.{⊎_elim, arith}
@@ -28,7 +29,7 @@ abbrev pub Matches : WarpRow → Option Transaction → Type 0
 Matches warp_row None = is_idle warp_row.phase ≡ true
 Matches warp_row (Some tx) = Running warp_row tx
 
--- A line is held at a stamp below one.
+-- A line is held at a stamp below t.
 pub record Blocked (l : Ledger) (line t : ℕ) : Type 0 where
   pub by_warp : ℕ
   pub at_stamp : ℕ
@@ -36,7 +37,8 @@ pub record Blocked (l : Ledger) (line t : ℕ) : Type 0 where
   pub falls : at_stamp < t
 
 module _ (k : Kind) (first : Lines) where
-  -- A warp that waits: its request, and that its line is held at a smaller stamp, unless it is exempt for now.
+  -- A warp that waits: its request, and that its line is held at a smaller stamp. While retries go
+  -- on, warps that are still to be retried are exempt (E) from the latter.
   pub record Waiter (E : ℕ → ℕ → Type 0) (m : Machine k) (l : Ledger) (w : ℕ) : Type 0 where
     pub request : Request
     pub requested : request_of m.queue w ≡ Some request
@@ -53,7 +55,7 @@ module _ (k : Kind) (first : Lines) where
     pub quiet : (w : ℕ) → is_waiting (warp_row_of m w).phase ≡ false → request_of m.queue w ≡ None
     pub counts : CountsAgree k l m.book
 
-  -- What is exempt may change, as long as no waiting warp is left behind.
+  -- The exemptions may change, as long as each waiting warp is exempt or blocked.
   pub exempt :
       (E E' : ℕ → ℕ → Type 0) (m : Machine k) (l : Ledger) → Invariant E m l
       → ((w : ℕ) (r : Request) → is_waiting (warp_row_of m w).phase ≡ true → request_of m.queue w ≡ Some r
@@ -79,7 +81,7 @@ module _ (k : Kind) (first : Lines) where
         counts = I.counts;
       }
 
-  -- One warp moves, and the others stay where they are.
+  -- One warp's row is replaced, and the other rows stay.
   pub one_row_keeps :
       (E E' : ℕ → ℕ → Type 0) (m m' : Machine k) (l l' : Ledger) (w : ℕ) → Invariant E m l
       → k.Good m'.book → History k first l' m'.lines m'.book
@@ -137,7 +139,7 @@ module _ (k : Kind) (first : Lines) where
       quiet_now v (inr n) p =
           requests v n ∙ I.quiet v (subst (λ (warp_row : WarpRow). is_waiting warp_row.phase ≡ false) (warp_rows v n) p)
 
-  -- Phases, stamps and queue stay, and what is held stays held.
+  -- Phases, stamps and queue stay, and held lines stay held.
   pub same_phases_keep :
       (E : ℕ → ℕ → Type 0) (m m' : Machine k) (l l' : Ledger) → Invariant E m l
       → k.Good m'.book → History k first l' m'.lines m'.book
@@ -178,7 +180,7 @@ module _ (k : Kind) (first : Lines) where
         counts = counts;
       }
 
-  -- A warp's own transaction in a changed ledger, and the others'.
+  -- One warp's transaction is replaced in the ledger, and the others stay.
   pub current_mine : (l : Ledger) (w : ℕ) (o : Option Transaction) → (with_current l w o).current w ≡ o
   current_mine l w o = ap (λ b. cond b o (l.current w)) (eqb_refl w)
 
@@ -187,7 +189,7 @@ module _ (k : Kind) (first : Lines) where
       → (with_current l w o).current v ≡ l.current v
   current_other l w o v n = ap (λ b. cond b o (l.current v)) (ne_eqb v w n)
 
-  -- Whoever holds a line has a transaction that stored to it.
+  -- A warp that holds a line has a transaction that stored to it.
   pub holds_line :
       (l : Ledger) (w line t : ℕ) → hold l w line ≡ Some t
       → (tx : Transaction) × (l.current w ≡ Some tx) × (is_written tx.actions line ≡ true) × (tx.stamp ≡ t)
@@ -221,7 +223,7 @@ module _ (k : Kind) (first : Lines) where
       pub in_machine : w < length m.warp_rows
       in_machine = busy_low m w running.busy
 
-      -- What it holds stays held when it does one thing more.
+      -- Held lines stay held after one more load or store.
       joined_holds :
           (d : Action) → ((n : ℕ) → is_written tx.actions n ≡ true → is_written (d ∷ tx.actions) n ≡ true)
           → (h line t : ℕ) → hold l h line ≡ Some t
@@ -241,7 +243,7 @@ module _ (k : Kind) (first : Lines) where
               ∙ ap Some (ap (λ (u : Transaction). u.stamp) (sym one) ∙ q.3)
           step false p = e
 
-      -- One thing more, done by this warp; its row may log it.
+      -- The ledger after one more load or store by this warp. Its row may log the store.
       abbrev pub ledger_with_action : (Transaction → Action) → Ledger
       ledger_with_action action = with_current l w (option_map (λ t. with_action t (action t)) (l.current w))
 

@@ -1,4 +1,5 @@
--- The machine's account, move by move: begin, a load or a store that joins, an end, a commit.
+-- What holds of a ledger, the memory and the book, and how it is kept by each change of the ledger:
+-- a begin, a load or a store that joins, an end, and a commit.
 use Rattle.std.proofs.Common.{◌≡◌, ℕ, suc, ◌<◌, ◌≤◌, Bool, true, false, cond, ◌&&◌, eqb, ◌⊎◌, List}
 use Rattle.std.proofs.Common.{[], ◌∷◌, ◌++◌, length, is_some, Some, None, Option, sym, refl, ap}
 use Rattle.std.proofs.Common.{◌∙◌, subst, inl, inr, arith}
@@ -31,7 +32,7 @@ use Rattle.rules.proofs.History.{read_after_release, still_held}
 use Rattle.rules.proofs.History.{one_holder}
 use Rattle.rules.proofs.Commits.{ReadyToCommit, core_with_commit, read_with_commit, named_old, named_new, last_source_names_writer}
 
--- What a warp's transaction holds: the lines that it stored to, at its stamp.
+-- What a transaction holds: the lines that it stored to, at its stamp.
 abbrev pub hold_in : Option Transaction → ℕ → Option ℕ
 hold_in None line = None
 hold_in (Some tx) line = cond (is_written tx.actions line) (Some tx.stamp) None
@@ -43,7 +44,8 @@ pub hold_writes :
     (tx : Transaction) (line : ℕ) → is_written tx.actions line ≡ true → hold_in (Some tx) line ≡ Some tx.stamp
 hold_writes tx line w = ap (λ b. cond b (Some tx.stamp) None) w
 
--- A warp's transaction is the changed one or as it was.
+-- After one warp's transaction is replaced, every current transaction is the new one or was current
+-- before.
 pub current_cases :
     (l : Ledger) (w : ℕ) (o : Option Transaction) (h : ℕ) (tx : Transaction)
     → (with_current l w o).current h ≡ Some tx
@@ -65,7 +67,7 @@ keys_apart a h b w hl wl n e = step (cases_order a b)
     step (inr (inr p)) = absurd (omega arith)
 
 module _ (k : Kind) (first : Lines) where
-  -- All that holds of a ledger, a memory and a book in a run.
+  -- All that holds of the ledger, the memory and the book in a run.
   pub record History (l : Ledger) (lines : Lines) (s : k.State) : Type 0 where
     pub core : Core k first l.committed (hold l) lines s
     pub past :
@@ -76,7 +78,7 @@ module _ (k : Kind) (first : Lines) where
         → Reads k first l.committed (hold l) s (length l.committed) tx
     pub here : (h : ℕ) (tx : Transaction) → l.current h ≡ Some tx → (tx.warp ≡ h) × (h < 32)
 
-  -- One warp's transaction changes.
+  -- One warp's transaction is replaced.
   module _ (l : Ledger) (w : ℕ) (o : Option Transaction) (H' : Holding) (lines : Lines) (s' : k.State) where
     changed :
         hold (with_current l w o) ≡ H' → Core k first l.committed H' lines s'
@@ -145,7 +147,8 @@ module _ (k : Kind) (first : Lines) where
             step h line true p = sym (ap (λ o. hold_in o line) (ap l.current (eqb-true h w p) ∙ none))
             step h line false p = refl
 
-    -- A warp lets some lines go, and its transaction becomes another, if any, that holds the lines that are left.
+    -- A warp releases some lines, and its transaction is replaced by one that holds the remaining
+    -- lines, or by none.
     module _ (gone : List ℕ) (s' : k.State) (g : Released k (hold l) s s' w gone) where
       abbrev left : ℕ → Transaction → Type 0
       left place tx = Reads k first l.committed (without_holds (hold l) w gone) s' place tx
@@ -167,7 +170,7 @@ module _ (k : Kind) (first : Lines) where
               (ReadNow k first l.committed (without_holds (hold l) w gone) s' place tx.stamp tx.warp)
               (read_after_release k first l.committed (hold l) lines s s' w gone g place tx.stamp tx.warp) tx.actions r
 
-      -- It lets all its lines go.
+      -- A warp releases all its lines.
       pub all_lines_released :
           ((line t : ℕ) → hold l w line ≡ Some t → has line gone ≡ true)
           → hold (without_current l w) ≡ without_holds (hold l) w gone
@@ -198,7 +201,7 @@ module _ (k : Kind) (first : Lines) where
           lines_released None (all_lines_released all) (λ tx e. let z : ◌≡◌ {A = ℕ} 0 1 = cc in absurd (omega arith))
 
     module _ (tx : Transaction) (mine : l.current w ≡ Some tx) where
-      -- One action more, with a book that has moved on.
+      -- A transaction with one more load or store, after the book has changed.
       joined :
           (s' : k.State) (g : Grown k s s') (d : Action)
           → ((line : ℕ) → is_written (d ∷ tx.actions) line ≡ is_written tx.actions line)
@@ -244,7 +247,7 @@ module _ (k : Kind) (first : Lines) where
           ≡ with_current l w (option_map (λ t. with_action t (d t)) (l.current w))
       as_joined d = ap (λ o. with_current l w (option_map (λ t. with_action t (d t)) o)) (sym mine)
 
-      -- A load of the transaction's own store.
+      -- A load that finds an own store.
       pub load_own :
           (s' : k.State) → Grown k s s' → (line v : ℕ) → last_own_store tx.actions line ≡ Some v
           → History (with_load l w line v) lines s'
@@ -261,7 +264,7 @@ module _ (k : Kind) (first : Lines) where
             r,
           )))
 
-      -- A load of what others wrote.
+      -- A load of a line that the transaction has not stored to.
       pub load_other :
           (s' : k.State) → Grown k s s' → (line v : ℕ) → last_own_store tx.actions line ≡ None
           → lines line ≡ Some v → line < line_limit → k.owner s line ≡ None → k.write_stamp s line ≤ tx.stamp
@@ -335,7 +338,7 @@ module _ (k : Kind) (first : Lines) where
           step n true p = sym (ap is_some (ap (last_own_store tx.actions) (sym (eqb-true line n p)) ∙ e))
           step n false p = refl
 
-      -- A store to a line that the transaction takes.
+      -- A store to a line that the transaction reserves with it.
       pub store_new :
           (s' : k.State) (line v : ℕ) → Reserved k s s' w line tx.stamp → is_some (lines line) ≡ true
           → History (with_store l w line v) lines s'
@@ -390,7 +393,7 @@ module _ (k : Kind) (first : Lines) where
                   (sym (ap l.current (eqb-true h w p) ∙ mine))
               step h n false p = refl
 
-      -- A transaction commits: it lets its lines go, and its stores are in memory.
+      -- A transaction commits: it releases its lines, and its stores are in memory.
       pub committed :
           (gone : List ℕ) (s' : k.State) → Released k (hold l) s s' w gone
           → ((line t : ℕ) → hold l w line ≡ Some t → has line gone ≡ true)

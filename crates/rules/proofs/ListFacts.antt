@@ -1,4 +1,4 @@
--- Lists of numbers: what stands in them, what stands before what, and lists that rise.
+-- Lists of numbers: what they contain, what comes before what, and rising lists.
 use Rattle.std.proofs.Common.{◌≡◌, ℕ, zero, suc, ◌+◌, ◌<◌, ◌≤◌, Bool, true, false, cond, ◌&&◌, ◌||◌}
 use Rattle.std.proofs.Common.{eqb, ltb, ◌⊎◌, List, [], ◌∷◌, ◌++◌, Some, None, fold, filter, sym}
 use Rattle.std.proofs.Common.{refl, ap, ◌∙◌, subst, inl, inr, ⊎_elim, arith}
@@ -22,7 +22,7 @@ pub fold_append :
 fold_append f b [] ys = refl
 fold_append f b (x ∷ xs) ys = fold_append f (f b x) xs ys
 
--- What stands in two lists, in a filtered one, among the numbers below a limit.
+-- What two lists, a filtered list and the numbers below a limit contain.
 pub has_append : (z : ℕ) (xs ys : List ℕ) → has z (xs ++ ys) ≡ (has z xs || has z ys)
 has_append z [] ys = refl
 has_append z (x ∷ xs) ys = step (eqb x z) (has_append z xs ys)
@@ -77,9 +77,9 @@ has_numbers_below z (suc n) =
     has_append z (numbers_below n) (n ∷ [])
     ∙ ap (λ b. b || (eqb n z || false)) (has_numbers_below z n) ∙ grind (arith, nat_tests)
 
--- What stands once.
+-- Numbers that occur once.
 
--- A list in which no number stands twice.
+-- No number occurs twice in the list.
 abbrev pub Once : List ℕ → Type 0
 Once xs = (z : ℕ) → occurrences z xs ≤ 1
 
@@ -111,7 +111,7 @@ once_apart z xs ys h p q =
     let b : 0 < occurrences z ys = ltb-true 0 (occurrences z ys) (sym (has_count z ys) ∙ q) in
     omega (arith, h z, count_append z xs ys)
 
--- A list splits at what stands in it.
+-- A list can be split at a number that it contains.
 pub record Split (z : ℕ) (xs : List ℕ) : Type 0 where
   pub front : List ℕ
   pub back : List ℕ
@@ -130,7 +130,7 @@ split_at z (x ∷ xs) h = step (eqb x z) refl h (split_at z xs)
         let s = rest p in
         record { front = x ∷ s.front; back = s.back; whole = ap (λ l. x ∷ l) s.whole }
 
--- What stands before what.
+-- Which numbers come before which.
 pub before_has : (xs : List ℕ) (a b : ℕ) → is_before xs a b ≡ true → has b xs ≡ true
 before_has [] a b h = absurd (both_ways false refl h)
 before_has (x ∷ xs) a b h = step (eqb x a) h (before_has xs a b)
@@ -157,7 +157,7 @@ front_before (x ∷ p) q a b h = step (eqb x a) h (front_before p q a b)
     step true k rest = at_b
     step false k rest = rest k
 
--- At the place of a, what stands after it is what the back holds.
+-- After the first occurrence of a come just the numbers of the back.
 pub before_at : (p q : List ℕ) (a b : ℕ) → has a p ≡ false → is_before (p ++ a ∷ q) a b ≡ has b q
 before_at [] q a b h = ap (λ e. cond e (has b q) (is_before q a b)) (eqb_refl a)
 before_at (x ∷ p) q a b h =
@@ -165,7 +165,7 @@ before_at (x ∷ p) q a b h =
     ap (λ e. cond e (has b (p ++ a ∷ q)) (is_before (p ++ a ∷ q) a b)) k.0
     ∙ before_at p q a b k.1
 
--- What stands before b, where b stands once, is in the front.
+-- What comes before b, which occurs once, is in the front.
 pub before_in_front :
     (p q : List ℕ) (a b : ℕ) → has b p ≡ false → has b q ≡ false
     → is_before (p ++ b ∷ q) a b ≡ true → has a p ≡ true
@@ -277,7 +277,7 @@ rising_same (x ∷ xs) (y ∷ ys) h k e =
             ∙ sym (not_in y ys k.0 z (sym heads ∙ eqb-true x z p))
         step false p q = q ∙ ap (λ b. b || has z ys) (ap (λ u. eqb u z) (sym heads) ∙ p)
 
--- The numbers that pass a test rise in a list, if the smaller of two always stands first.
+-- The numbers that pass a test are rising, if the smaller of two always comes first.
 pub rising_from_before :
     (t : ℕ → Bool) (xs : List ℕ) → Once xs
     → ((a b : ℕ) → t a ≡ true → t b ≡ true → has a xs ≡ true → has b xs ≡ true → a < b
@@ -362,7 +362,7 @@ last_none [] h = refl
 last_none (x ∷ xs) h =
     absurd (both_ways (has x (x ∷ xs)) (h x) (or_left (eqb x x) (has x xs) (eqb_refl x)))
 
--- It stands in the list; what stands in a list gives it a last.
+-- The last number is in the list, and a list with a number in it has a last one.
 pub last_is_in : (xs : List ℕ) (z : ℕ) → last_of xs ≡ Some z → has z xs ≡ true
 last_is_in [] z h = let bad : ◌≡◌ {A = ℕ} 0 1 = cc in absurd (omega arith)
 last_is_in (x ∷ xs) z h = go xs x h

@@ -1,4 +1,4 @@
--- Logs, rows and the queue, as lists.
+-- Lists in the machine: logs, rows and the queue.
 use Rattle.std.proofs.Common.{◌≡◌, ℕ, ◌<◌, Bool, true, false, cond, not, ◌||◌, eqb, List, [], ◌∷◌}
 use Rattle.std.proofs.Common.{◌++◌, length, is_some, Some, None, fold, Option, sym, refl, ap, ◌∙◌}
 use Rattle.std.proofs.Common.{subst, ⊎_elim}
@@ -17,7 +17,7 @@ use Rattle.rules.specs.Transactions.{Action, loaded, stored, last_own_store, is_
 use Rattle.rules.specs.Transactions.{transaction_stores}
 use Rattle.rules.proofs.ListFacts.{eqb_refl, has_append}
 
--- The last value logged is the transaction's own.
+-- The last value that the log has for a line is the one that the transaction last stored.
 pub logged_own : (actions : List Action) (line : ℕ) → last_stored (transaction_stores actions) line ≡ last_own_store actions line
 logged_own [] line = refl
 logged_own (loaded d ∷ actions) line = logged_own actions line
@@ -79,7 +79,7 @@ has_logged actions line =
         step false (Some u) = refl
 
 module _ {k : Kind} (m : Machine k) (w : ℕ) where
-  -- A row that is put is there, and the others are as they were.
+  -- A row that is replaced is the new one, and the others do not change.
   pub warp_row_put :
       (warp_row : WarpRow) → w < length m.warp_rows → warp_row_of (with_warp_row m w warp_row) w ≡ warp_row
   warp_row_put warp_row low = get_or-set_same m.warp_rows w warp_row (idle_row 0) low
@@ -104,7 +104,8 @@ waiting_busy Open e = refl
 waiting_busy Waiting e = refl
 waiting_busy (Settled outcome) e = refl
 
--- A request that joins the queue is its warp's, unless the warp has one there already; the others' stay.
+-- A request that joins the queue is its warp's, unless the warp already has one there; the requests
+-- of others stay.
 pub request_push :
     (queue : List Request) (r : Request) (v : ℕ) → (v ≡ r.warp → ⊥)
     → request_of (queue ++ r ∷ []) v ≡ request_of queue v
@@ -124,7 +125,7 @@ request_mine (q ∷ queue) r e = step (eqb q.warp r.warp) e (request_mine queue 
     step true p rest = cc
     step false p rest = rest p
 
--- A request that leaves leaves the others' where they were.
+-- When a request leaves the queue, the requests of others stay.
 pub request_left :
     (queue : List Request) (w v : ℕ) → (v ≡ w → ⊥) → request_of (queue_without queue w) v ≡ request_of queue v
 request_left [] w v n = refl

@@ -1,4 +1,5 @@
--- Each small move of the machine keeps the invariant of a run.
+-- Each step of one warp keeps the invariant of a run: a load or a store that is served or waits, a
+-- withdrawal, a begin and an end.
 use Rattle.std.proofs.Common.{◌≡◌, ℕ, suc, ◌<◌, ◌≤◌, Bool, true, false, cond, ◌&&◌, eqb, ltb, ◌⊎◌}
 use Rattle.std.proofs.Common.{List, [], ◌∷◌, ◌++◌, length, get_or, set, is_some, Some, None, fold}
 use Rattle.std.proofs.Common.{Option, unwrap_or, sym, refl, ap, ◌∙◌, subst, inl, inr, ⊎_elim, arith}
@@ -78,7 +79,7 @@ module _
       same_time : (s : ℕ) → tx.stamp ≡ s → ◌≡◌ {A = ℕ × ℕ} (s, w) (tx.stamp, tx.warp)
       same_time s e = λ i. (sym e i, sym (warp_is k first keeps E m l I w tx mine) i)
 
-      -- A row that logs one store more keeps its phase and its stamp.
+      -- One more store in the log does not change the row's phase or stamp.
       abbrev after_log : ℕ → ℕ → ℕ → WarpRow
       after_log line v u = get_or (set m.warp_rows w (row_with_store (warp_row_of m w) line v)) u (idle_row 0)
 
@@ -122,7 +123,8 @@ module _
         in_memory : is_some (m.lines line) ≡ true
         in_memory = I.history.core.same_lines line ∙ there
 
-        -- The owner has stored to the line; a request that stalls is blocked by its owner.
+        -- The owner of a line has stored to it, and a request that must wait is blocked by the
+        -- owner.
         own_value : k.owner m.book line ≡ Some w → (u : ℕ) × (last_own_store tx.actions line ≡ Some u)
         own_value owned =
             let h = I.history.core.owner_holds line w low owned in
@@ -131,7 +133,7 @@ module _
             let one : q.0 ≡ tx = cc in
             some_of (last_own_store tx.actions line) (subst (λ (t : Transaction). is_written t.actions line ≡ true) one q.2)
 
-        -- A line that is nobody's is not stored to by the transaction.
+        -- The transaction has not stored to a line that nobody has reserved.
         not_own : k.owner m.book line ≡ None → last_own_store tx.actions line ≡ None
         not_own nobody = own_or_none (last_own_store tx.actions line) foreign
           where
@@ -157,7 +159,7 @@ module _
                   omega arith;
             }
 
-        -- A load or a store on a line that is nobody's.
+        -- A load or a store on a line that nobody has reserved is served.
         pub serving_keeps :
             (access : Access) → MayGoOn access (line_state k m.book line) (time_of m w)
             → Invariant k first E (served_on_free_line m w line access).machine
@@ -202,7 +204,7 @@ module _
             ∙ ap suc (sym (no_stores_unless_written tx.actions line (ap is_some (not_own go.nobody)))))
             (λ h o. let a = go.nobody in let z : ◌≡◌ {A = ℕ} 0 1 = cc in absurd (omega arith)))
 
-        -- A load or a store on the warp's own line.
+        -- A load or a store on the warp's own line is served.
         pub own_serving_keeps :
             (access : Access) → Room access (warp_row_of m w) → k.owner m.book line ≡ Some w
             → Invariant k first E (served_on_own_line m w line access).machine
@@ -306,7 +308,7 @@ module _
                 ≡ row_in_phase (warp_row_of m w) Waiting
             put_warp_row = warp_row_put m w (row_in_phase (warp_row_of m w) Waiting) inside
 
-      -- A warp that does not wait goes on to do something else, with its transaction, without waiting.
+      -- A warp with a transaction changes its phase, and waits neither before nor after.
       module _ (p : Phase) (busy : is_idle p ≡ false) (still : is_waiting p ≡ false) where
         put_phase :
             get_or (set m.warp_rows w (row_in_phase (warp_row_of m w) p)) w (idle_row 0) ≡ row_in_phase (warp_row_of m w) p
@@ -339,7 +341,7 @@ module _
             (λ v n. warp_row_kept m w (row_in_phase (warp_row_of m w) p) v n) (λ v n. refl) (λ v n. refl)
             (λ v line t n b. b) its_phase (λ q. absurd (never_waits q)) (λ q. I.quiet w calm) I.counts
 
-      -- A request is withdrawn: it leaves the queue, and its warp is open.
+      -- A request is withdrawn: it leaves the queue, and its warp is open again.
       module _ (E' : ℕ → ℕ → Type 0) (to : (v line : ℕ) → (v ≡ w → ⊥) → E v line → E' v line) where
         pub withdrawal_keeps : Invariant k first E' (after_withdrawal m w) l
         unfolding after_withdrawal
@@ -358,7 +360,7 @@ module _
       abbrev pub freed_book : List ℕ → k.State
       freed_book gone = fold (state_after_release k) m.book gone
 
-      -- Lines that the transaction stored to are released, and its row becomes another.
+      -- Some lines that the transaction stored to are released, and its row is replaced.
       module _ (gone : List ℕ) (its : (line : ℕ) → has line gone ≡ true → is_written tx.actions line ≡ true) where
         freed : Freed k keeps m.book (freed_book gone) gone
         freed = after_release k keeps m.book I.good gone
@@ -384,8 +386,8 @@ module _
         counts_left o =
             counts_after_release k first m.lines l m.book (freed_book gone) I.history I.counts w gone o was_held freed.counts
 
-        -- The warp holds what it held but these lines, and the others hold what they held. Whoever is blocked by one of
-        -- these lines is exempt until it is tried.
+        -- The warp holds what it held except these lines, and the others hold what they held.
+        -- Requests blocked at these lines are exempt until they are retried.
         module _ (l' : Ledger) (holds : hold l' ≡ without_holds (hold l) w gone) where
           still_blocked :
               (v line t : ℕ) → E v line ⊎ Blocked l line t
@@ -435,7 +437,8 @@ module _
               put_row : get_or (set m.warp_rows w warp_row) w (idle_row 0) ≡ warp_row
               put_row = warp_row_put m w warp_row inside
 
-      -- The transaction ends, without and with a commit: it lets go of the lines that its log stores to.
+      -- The transaction ends, with or without a commit, and releases the lines that its log stores
+      -- to.
       abbrev pub its_lines : List ℕ
       its_lines = logged_lines (warp_row_of m w).log
 
@@ -566,7 +569,7 @@ module _
               falls = b.falls;
             })
 
--- A request comes out: it is withdrawn, and its warp has an outcome to fetch.
+-- A request is settled: it is withdrawn, and its warp has an outcome to fetch.
 pub settling_keeps :
     (k : Kind) (first : Lines) (keeps : Keeps k) (E : ℕ → ℕ → Type 0) (m : Machine k) (l : Ledger)
     (I : Invariant k first E m l) (w : ℕ) (tx : Transaction) → l.current w ≡ Some tx → (E' : ℕ → ℕ → Type 0)

@@ -1,4 +1,4 @@
--- The product's own order of tries covers every request that waits for the line.
+-- The product's own order of turns leaves out no request that waits for the line.
 use Rattle.std.proofs.Common.{◌≡◌, ℕ, Bool, true, false, cond, ◌||◌, eqb, List, [], ◌∷◌, map, Some}
 use Rattle.std.proofs.Common.{fold, refl, ap, ◌∙◌}
 use Rattle.std.proofs.lemmas.Bool.{or_left, or_right}
@@ -11,7 +11,7 @@ use Rattle.rules.specs.Laws.{ProductCovers}
 use Rattle.rules.proofs.ListFacts.{eqb_refl}
 
 module _ (rows : List WarpRow) where
-  -- A warp that is placed stands there, with all others.
+  -- Inserting a warp keeps all other warps and adds this one.
   has_placed : (xs : List ℕ) (w z : ℕ) → has z (inserted_by_stamp rows xs w) ≡ (eqb w z || has z xs)
   has_placed [] w z = refl
   has_placed (v ∷ xs) w z = step (has_smaller_stamp rows w v) (has_placed xs w z)
@@ -47,7 +47,7 @@ module _ (rows : List WarpRow) where
 abbrev warp_of : Request → ℕ
 warp_of q = q.warp
 
--- A request in the queue is among those of its line.
+-- A request in the queue is among those for its line.
 in_line :
     (queue : List Request) (w : ℕ) (r : Request) → request_of queue w ≡ Some r
     → has w (map warp_of (requests_on queue r.line)) ≡ true

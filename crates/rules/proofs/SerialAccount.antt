@@ -1,4 +1,4 @@
--- What the other account comes to: its writers, its values and its loads, in any order.
+-- The account of transactions executed alone: its writers, its values and its loads, in any order.
 use Rattle.std.proofs.Common.{◌≡◌, ℕ, Bool, true, false, cond, ◌||◌, eqb, List, [], ◌∷◌, ◌++◌}
 use Rattle.std.proofs.Common.{is_some, Some, None, fold, filter, Option, sym, refl, ap, ◌∙◌, subst}
 use Rattle.std.proofs.lemmas.List.Sums.{fold_push}
@@ -52,7 +52,7 @@ written_at ls (stored s ∷ actions) line =
     step false o e = e
 
 module _ (first : Lines) (txs : List Transaction) where
-  -- The value of the store that a load found.
+  -- The value of the store that a load found. A load of an own store is dealt with apart.
   abbrev pub source_value : ℕ → Source → Option ℕ
   source_value line own_store = None
   source_value line (committed_store name) = last_own_store (transaction_named txs name).actions line
@@ -61,7 +61,7 @@ module _ (first : Lines) (txs : List Transaction) where
   abbrev pub writer : ℕ → ℕ → Bool
   writer line name = is_written (transaction_named txs name).actions line
 
-  -- The writers of a line, in an order, are those of the order that stored to it.
+  -- Executed alone in an order, the writers of a line are those of the order that stored to it.
   pub writers_alone :
       (line : ℕ) (order : List ℕ) (a : Account)
       → (fold (account_after txs) a order).line_writers line
@@ -79,7 +79,7 @@ module _ (first : Lines) (txs : List Transaction) where
       step true = refl
       step false = refl
 
-  -- A line's value is its last writer's, or the first memory's.
+  -- The value of a line is its last writer's, or the initial memory's.
   pub values_alone :
       (line : ℕ) (order : List ℕ) (a : Account) (o : Option ℕ)
       → a.last_values line ≡ source_value line (committed_source o)
@@ -126,7 +126,7 @@ module _ (first : Lines) (txs : List Transaction) where
           in
           more (Some x) (same ∙ sym q) (λ name w. ap is_some same)
 
-  -- What the loads of a name got stays once no later turn is its own.
+  -- What the loads of a transaction got does not change unless it is executed again.
   pub loads_stay :
       (i : ℕ) (order : List ℕ) (a : Account) → has i order ≡ false
       → (fold (account_after txs) a order).loads i ≡ a.loads i
@@ -137,7 +137,7 @@ module _ (first : Lines) (txs : List Transaction) where
       loads_stay i order (account_after txs a x) k.1
       ∙ ap (λ b. cond b (load_results_alone a (transaction_named txs x).actions) (a.loads i)) (eqb_sym i x ∙ k.0)
 
-  -- At its own turn, a name's loads get what stands there then.
+  -- The loads of a transaction get what the account says when it is executed.
   pub loads_alone :
       (i : ℕ) (p q : List ℕ) (a : Account) → has i q ≡ false
       → (fold (account_after txs) a (p ++ i ∷ q)).loads i
@@ -151,7 +151,8 @@ module _ (first : Lines) (txs : List Transaction) where
       here : Account
       here = fold (account_after txs) a p
 
--- What holds of each load of a transaction: after an own store it gave that value; else P.
+-- What holds of each load of a transaction: after an own store to the line it gave that store's
+-- value, and otherwise P holds.
 abbrev pub AtLoad : (ℕ → ℕ → Source → Type 0) → ℕ → ℕ → Source → Option ℕ → Type 0
 AtLoad P line v f (Some u) = (v ≡ u) × (f ≡ own_store)
 AtLoad P line v f None = P line v f
@@ -173,7 +174,8 @@ each_weaker P Q to (loaded d ∷ actions) h =
     step (Some u) p = p
 each_weaker P Q to (stored s ∷ actions) h = each_weaker P Q to actions h
 
--- Loads that find alone what they found in the run get what they got in the run, and the other way round.
+-- Loads that find the same sources alone as in the run get the same values, and the other way
+-- round.
 module _ (P : ℕ → ℕ → Source → Type 0) (a : Account) where
   abbrev there : ℕ → Source
   there line = committed_source (last_of (a.line_writers line))
@@ -214,7 +216,7 @@ module _ (P : ℕ → ℕ → Source → Type 0) (a : Account) where
       step None p q = (p, ap (λ (g : LoadResult). g.source) q)
   loads_find_the_same (stored s ∷ actions) e h = loads_find_the_same actions e h
 
--- A transaction that loaded a line and never stored to it found another's store there.
+-- A transaction that loaded a line and never stored to it has a load for which P holds.
 pub read_source :
     (P : ℕ → ℕ → Source → Type 0) (line : ℕ) (actions : List Action) → is_read actions line ≡ true
     → last_own_store actions line ≡ None → EachLoad P actions → (v : ℕ) × (f : Source) × P line v f
@@ -240,7 +242,8 @@ read_source P line (stored s ∷ actions) r n h =
     step true k = cc
     step false k = k
 
--- Each load is of a line that its transaction loaded.
+-- Each load is of a line that its transaction read, so a fact about the read lines holds at each
+-- load.
 pub each_read :
     (P : ℕ → ℕ → Source → Type 0) (R : ℕ → Type 0) (actions : List Action)
     → ((line : ℕ) → is_read actions line ≡ true → R line) → EachLoad P actions

@@ -1,4 +1,6 @@
--- Lists only: what four facts about committed transactions say of every order in which they run alone.
+-- From four facts about committed transactions: executed alone in an order they give the account of
+-- the run exactly if the order is that of logical time wherever they conflict. This is about lists
+-- only; the machine comes in with the facts.
 use Rattle.std.proofs.Common.{◌≡◌, ℕ, suc, ◌+◌, ◌*◌, ◌<◌, ◌≤◌, Bool, true, false, cond, ◌&&◌, ◌||◌}
 use Rattle.std.proofs.Common.{eqb, ltb, ◌⊎◌, List, [], ◌∷◌, ◌++◌, length, is_some, Some, None}
 use Rattle.std.proofs.Common.{filter, Option, sym, refl, ap, ◌∙◌, subst, inl, inr, ⊎_elim, arith}
@@ -32,7 +34,7 @@ key stamp warp = 32 * stamp + warp
 abbrev pub key_of : Transaction → ℕ
 key_of tx = key tx.stamp tx.warp
 
--- Earlier in logical time, with the place of the commit.
+-- Earlier in logical time: by the number, then by the place of the commit.
 abbrev pub Earlier : ℕ → ℕ → ℕ → ℕ → Type 0
 Earlier k place l place' = (k ≤ l) × (l ≤ k → place < place')
 
@@ -47,7 +49,7 @@ numbers_time :
     → ((ltb s t || (eqb s t && ltb w v)) || (eqb s t && (eqb w v && ltb a b))) ≡ true
 numbers_time s w a t v b hw hv h = grind (arith, nat_tests)
 
--- Clashes, test by test.
+-- Two transactions conflict if one writes the line and the other uses it.
 conflict_of_left_writer :
     (wa ra wb rb : Bool) → wa ≡ true → (wb || rb) ≡ true → ((wa || ra) && ((wb || rb) && (wa || wb))) ≡ true
 conflict_of_left_writer true ra true rb p q = refl
@@ -62,7 +64,8 @@ conflict_of_right_writer false true true rb p q = refl
 conflict_of_right_writer false false true rb p q = p
 conflict_of_right_writer wa ra false rb p q = absurd (both_ways false refl q)
 
--- A clash is of two writers, of a writer and a reader that never writes, or of such a reader and a writer.
+-- A conflict is one of two writers, of a writer and a reader that never writes, or of such a reader
+-- and a writer.
 data ConflictKind : Bool → Bool → Bool → Bool → Type 0 where
   two_writers : {wa ra wb rb : Bool} → wa ≡ true → wb ≡ true → ConflictKind wa ra wb rb
   writer_and_reader : {wa ra wb rb : Bool} → wa ≡ true → wb ≡ false → rb ≡ true → ConflictKind wa ra wb rb
@@ -77,7 +80,7 @@ conflict_kind false true false true h = absurd (both_ways false refl h)
 conflict_kind false true false false h = absurd (both_ways false refl h)
 conflict_kind false false wb rb h = absurd (both_ways false refl h)
 
--- How many commits a find has seen.
+-- How many commits there were up to the store that a load found.
 abbrev pub commits_seen : Source → ℕ
 commits_seen own_store = 0
 commits_seen (committed_store name) = suc name
@@ -90,14 +93,15 @@ module _ (first : Lines) (txs : List Transaction) where
   abbrev pub key_at : ℕ → ℕ
   key_at name = key_of (transaction_named txs name)
 
-  -- A find names a committed writer of the line, or the first memory.
+  -- The source is a committed writer of the line or the initial memory.
   abbrev pub NamesWriter : Source → ℕ → Type 0
   NamesWriter own_store line = ⊥
   NamesWriter (committed_store name) line = writer first txs line name ≡ true
   NamesWriter initial_memory line = Unit {0}
 
-  -- A load by a transaction at a place, a stamp and a warp found the right store: the writers up to the one found have
-  -- smaller stamps, and every other writer but itself is later in logical time.
+  -- A load by a transaction with a place, a stamp and a warp found the right store: the writers up
+  -- to the one found have smaller stamps, and every other writer, except the transaction itself, is
+  -- later in logical time.
   pub record IsRightSource (place stamp warp line v : ℕ) (f : Source) : Type 0 where
     pub names : NamesWriter f line
     pub value : source_value first txs line f ≡ Some v
@@ -106,7 +110,8 @@ module _ (first : Lines) (txs : List Transaction) where
         (j : ℕ) → writer first txs line j ≡ true → commits_seen f ≤ j → (j ≡ place → ⊥)
         → Earlier (key stamp warp) place (key_at j) j
 
--- The four facts, and that warps and written lines are the machine's.
+-- The four facts: writers of a line commit in the order of their stamps; loads found the right
+-- stores; the memory holds the last writers' values; and warps and written lines are the machine's.
 pub record Serial (first : Lines) (txs : List Transaction) (memory : Lines) : Type 0 where
   pub sorted :
       (line i j : ℕ) → i < j → writer first txs line i ≡ true → writer first txs line j ≡ true
@@ -178,7 +183,7 @@ module _ (first : Lines) (txs : List Transaction) (memory : Lines) (S : Serial f
         step true e = omega arith
         step false e = omega arith
 
-    -- Writers of a line, run in the order.
+    -- The writers and the value of a line after some transactions of the order.
     serial_writers : (line : ℕ) (p : List ℕ) → (serial_account first txs p).line_writers line ≡ filter (wr line) p
     serial_writers line p = writers_alone first txs line p start
 
@@ -188,7 +193,7 @@ module _ (first : Lines) (txs : List Transaction) (memory : Lines) (S : Serial f
         ≡ source_value first txs line (committed_source (last_of (filter (wr line) p)))
     serial_values line p = values_alone first txs line p start None refl (λ i h. S.there line i h)
 
-    -- In every split of the order at a name, that name stands in neither part.
+    -- If the order is split at a name, that name is in neither part.
     not_front : (i : ℕ) (p q : List ℕ) → order ≡ p ++ i ∷ q → has i p ≡ false
     not_front i p q e =
         ⊎_elim
@@ -235,7 +240,7 @@ module _ (first : Lines) (txs : List Transaction) (memory : Lines) (S : Serial f
           has_filter (wr line) z order ∙ ap (λ b. b && wr line z) (in_order z ∙ sym (has_numbers_below z n))
           ∙ sym (has_filter (wr line) z (numbers_below n)))
 
-      -- What stands before a reader are just the writers that its find has seen.
+      -- The writers before a reader in the order are just those up to the store that it found.
       module _ (i : ℕ) (i_low : i < n) (p q : List ℕ) (cut : order ≡ p ++ i ∷ q) (line v : ℕ) (f : Source)
           (right : IsRightSource first txs i (transaction_named txs i).stamp (transaction_named txs i).warp line v f)
           (reader : is_read (transaction_named txs i).actions line ≡ true)
@@ -354,7 +359,8 @@ module _ (first : Lines) (txs : List Transaction) (memory : Lines) (S : Serial f
       turns_rise : (line : ℕ) → Rising (filter (wr line) order)
       turns_rise line = subst Rising (sym (same_turns line)) (filtered_numbers_below_rise (wr line) n)
 
-      -- Of a transaction that loaded a line and never stored to it: what it found, alone and in the run.
+      -- A transaction that loaded a line and never stored to it found the same source alone and in
+      -- the run.
       finding :
           (i line : ℕ) → i < n → (p q : List ℕ) → order ≡ p ++ i ∷ q
           → is_read (transaction_named txs i).actions line ≡ true → wr line i ≡ false
@@ -498,7 +504,7 @@ module _ (first : Lines) (txs : List Transaction) (memory : Lines) (S : Serial f
           (conflict_kind (wr conflict.0 a) (is_read (transaction_named txs a).actions conflict.0) (wr conflict.0 b)
           (is_read (transaction_named txs b).actions conflict.0) conflict.1)
 
--- The accounts agree exactly in the orders that keep logical time among those that clash.
+-- The accounts agree exactly in the orders that keep conflicting transactions in logical time.
 pub accounts_agree :
     (first : Lines) (txs : List Transaction) (memory : Lines) → Serial first txs memory
     → (order : List ℕ) → EachOnce order (length txs)

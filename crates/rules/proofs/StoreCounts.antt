@@ -1,4 +1,4 @@
--- The book counts each line's stores as its holder's transaction made them.
+-- The book counts for each held line the stores of its holder's transaction.
 use Rattle.std.proofs.Common.{◌≡◌, ℕ, suc, ◌+◌, ◌<◌, ◌≤◌, Bool, true, false, cond, eqb, ◌⊎◌, List}
 use Rattle.std.proofs.Common.{[], ◌∷◌, ◌++◌, length, is_some, Some, Option, sym, refl, ap, ◌∙◌}
 use Rattle.std.proofs.Common.{subst, inl, inr, arith}
@@ -16,7 +16,8 @@ use Rattle.rules.specs.Ledger.{Ledger, with_action, with_current, with_begun}
 use Rattle.rules.proofs.ListFacts.{eqb_refl}
 use Rattle.rules.proofs.Ledgers.{hold_in, hold, hold_writes, History, current_cases}
 
--- What is stored to is counted, and no more often than there are stores.
+-- A line's count is positive if the line is written, 0 if not, and at most the number of all
+-- stores.
 pub no_stores_unless_written : (actions : List Action) (line : ℕ) → is_written actions line ≡ false → store_count actions line ≡ 0
 no_stores_unless_written [] line h = refl
 no_stores_unless_written (loaded d ∷ actions) line h = no_stores_unless_written actions line h
@@ -145,7 +146,7 @@ module _ (k : Kind) where
             (λ z. p.0 (only h (subst (λ n. k.owner s n ≡ Some h) z (owned h t p.1 line x))))
             ∙ T h t p.1 line x
 
-    -- Letting some lines go leaves the counts of the lines that are still held.
+    -- Releasing some lines leaves the counts of the lines that are still held.
     pub counts_after_release :
         (w : ℕ) (gone : List ℕ) (o : Option Transaction)
         → ((line : ℕ) → has line gone ≡ true → (t : ℕ) × (hold l w line ≡ Some t))

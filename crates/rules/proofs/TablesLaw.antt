@@ -1,4 +1,5 @@
--- The law of tables: after every run, what the machine's tables tell of warps and lines is what the account says.
+-- The law of tables: after every run, what the machine's tables say of warps and lines is what the
+-- ledger says.
 use Rattle.std.proofs.Common.{◌≡◌, ℕ, ◌<◌, Bool, true, false, eqb, [], Some, None, Option, sym}
 use Rattle.std.proofs.Common.{refl, ap, ◌∙◌, subst, inl}
 use Rattle.std.proofs.lemmas.Bool.{eqb-true, not-false}

@@ -1,5 +1,5 @@
--- Tries keep the invariant of a run, in whatever order they come, and leave no waiting warp behind if the order covers
--- the waiting requests.
+-- Retries keep the invariant of a run, in any order, and no waiting warp stays exempt if the order
+-- leaves out no waiting request.
 use Rattle.std.proofs.Common.{◌≡◌, ℕ, ◌<◌, Bool, true, false, cond, eqb, ◌⊎◌, List, [], ◌∷◌, ◌++◌}
 use Rattle.std.proofs.Common.{is_some, Some, None, fold, Option, sym, refl, ap, ◌∙◌, subst, inl}
 use Rattle.std.proofs.Common.{inr, ⊎_elim, arith}
@@ -42,7 +42,7 @@ has_transaction warp_row None p e = absurd (both_ways (is_idle warp_row.phase) e
 has_transaction warp_row (Some tx) p e = (tx, refl)
 
 module _ {k : Kind} (m : Machine k) (w line : ℕ) where
-  -- A warp is tried at a line when it waits there.
+  -- A warp has a request to retry at a line if it waits there.
   pub record TriedAt : Type 0 where
     pub waiting : is_waiting (warp_row_of m w).phase ≡ true
     pub request : Request
@@ -80,7 +80,7 @@ module _ {k : Kind} (m : Machine k) (w line : ℕ) where
       omega arith
 
 module _ (k : Kind) (first : Lines) (keeps : Keeps k) (start : Ledger) where
-  -- The account after some requests have come out.
+  -- The ledger after some requests are settled.
   abbrev pub ledger_after_tries : AfterTries k → Ledger
   ledger_after_tries st = fold ledger_after_settled start st.settled
 
@@ -207,7 +207,7 @@ module _ (k : Kind) (first : Lines) (keeps : Keeps k) (start : Ledger) where
       (covers : (m : Machine k) (w : ℕ) (r : Request) → request_of m.queue w ≡ Some r
       → E₀ ⊎ (has w (policy.turns m r.line) ≡ true))
     where
-      -- Exempt: what is still to be tried at this line, and the lines still to come.
+      -- Exempt: warps still to be retried at this line, and requests at the lines still to come.
       abbrev Still : ℕ → List ℕ → List ℕ → ℕ → ℕ → Type 0
       Still line turns lines v n = (E₀ ⊎ (has n lines ≡ true)) ⊎ ((n ≡ line) × (has v turns ≡ true))
 
@@ -273,7 +273,7 @@ module _ (k : Kind) (first : Lines) (keeps : Keeps k) (start : Ledger) where
           (λ v r p q e. inl (⊎_elim (λ x. x) (λ x. absurd (both_ways false refl x)) e))
       lines_keep (line ∷ lines) st I = lines_keep lines (after_turns policy st line) (wakes_keeps line lines st I)
 
-      -- Lines given up, with every try.
+      -- A warp gives up lines, and the requests that wait for them are retried.
       pub gives_up_keeps :
           (m : Machine k) (w : ℕ) (warp_row : WarpRow) (lines : List ℕ)
           → Invariant k first (λ v n. E₀ ⊎ (has n lines ≡ true)) (without_lines m w warp_row lines) start

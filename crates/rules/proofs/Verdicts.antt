@@ -12,7 +12,7 @@ use Rattle.rules.specs.declared.verdict.Verdict.TheVariants.{GoOn}
 use Rattle.rules.specs.Access.{by_owner, by_mark, retried, is_owner}
 use Rattle.rules.specs.Access.{decide, verdict_with_room}
 
--- A store goes on only where no later read is marked and there is a slot.
+-- A store may go on only if the line has no later read mark and has a slot.
 abbrev pub Storable : Access → LineState → Time → Type 0
 Storable Read t time = Unit {0}
 Storable (Write value) t time = (earlier time t.read_mark ≡ false) × (t.has_slot ≡ true)
@@ -21,19 +21,19 @@ abbrev Unmarked : Access → LineState → Time → Type 0
 Unmarked Read t time = Unit {0}
 Unmarked (Write value) t time = earlier time t.read_mark ≡ false
 
--- Nobody's line, not written later.
+-- The load or store may go on: nobody has the line reserved, and no later transaction wrote it.
 pub record MayGoOn (access : Access) (t : LineState) (time : Time) : Type 0 where
   pub nobody : t.owner ≡ None
   pub unwritten : t.write_stamp ≤ time.0
   pub storable : Storable access t time
 
--- Another's line, not written later.
+-- The request must wait: another warp has the line reserved, and no later transaction wrote it.
 pub record IsBlockedByOwner (t : LineState) (time : Time) : Type 0 where
   pub holder : ℕ
   pub owned : t.owner ≡ Some holder
   pub unwritten : t.write_stamp ≤ time.0
 
--- What a verdict says; the first step is left to P.
+-- What a verdict says. What `OwnLine` says is a parameter, since a retry skips the first step.
 abbrev pub VerdictMeans : Type 0 → Access → LineState → Time → Verdict → Type 0
 VerdictMeans P access t time OwnLine = P
 VerdictMeans P access t time (VerdictGone cause next) = Unit {0}
@@ -62,7 +62,7 @@ retried_verdict_means P access t time =
     cond_both _ _ _ (VerdictMeans P access t time) (λ e. tt)
     (λ e. mark_verdict_means P t time (ltb-false time.0 t.write_stamp e) access)
 
--- The owner is the warp itself.
+-- The owner of the line is the warp itself.
 mine : (o : Option ℕ) (w : ℕ) → is_owner o w ≡ true → o ≡ Some w
 mine None w e = absurd (both_ways false refl e)
 mine (Some v) w e = ap Some (eqb-true v w e)
@@ -73,7 +73,7 @@ decided_verdict_means access t time =
     cond_both _ _ _ (VerdictMeans (t.owner ≡ Some time.1) access t time) (λ e. mine t.owner time.1 e)
     (λ e. retried_verdict_means (t.owner ≡ Some time.1) access t time)
 
--- A queue without room only turns a wait into a loss.
+-- A full queue only replaces a wait by an abort.
 pub verdict_with_room_means :
     (P : Type 0) (access : Access) (t : LineState) (time : Time) (full : Bool) (stamp : ℕ) (v : Verdict)
     → VerdictMeans P access t time v → VerdictMeans P access t time (verdict_with_room full stamp v)

@@ -1,5 +1,6 @@
--- The law of waits: after every run of a new machine, going from each waiting warp to the holder of its line, and on
--- while the holder waits, stamps strictly fall, and fewer steps than there are warps reach one that does not wait.
+-- The law of waits: after every run of a new machine, from each waiting warp to the holder of its
+-- line, and on while the holder waits, stamps strictly decrease, and fewer steps than there are
+-- warps lead to one that does not wait.
 use Rattle.std.proofs.Common.{◌≡◌, ℕ, zero, suc, ◌+◌, ◌<◌, ◌≤◌, Bool, true, false, cond, ltb, ◌⊎◌}
 use Rattle.std.proofs.Common.{[], length, get_or, Some, None, Option, sym, refl, ap, ◌∙◌, subst}
 use Rattle.std.proofs.Common.{inl, inr, ⊎_elim, arith}
@@ -18,7 +19,7 @@ use Rattle.rules.proofs.Logs.{busy_low}
 use Rattle.rules.proofs.Invariant.{Matches, Blocked, Invariant, holds_line}
 use Rattle.rules.proofs.Calls.{run_keeps, new_keeps, refused_stays}
 
--- Counting: what passes a stricter test is counted less often.
+-- Counting: fewer numbers pass a stricter test.
 counted_most : (p : ℕ → Bool) (n : ℕ) → count_below p n ≤ n
 counted_most p zero = omega arith
 counted_most p (suc n) = step (p n) (counted_most p n)

@@ -1,4 +1,4 @@
--- The worked runs, by computing them.
+-- The worked runs give what they state: each is computed.
 use Rattle.std.proofs.Common.{refl}
 use Rattle.rules.specs.Worked.{WorkedRunsStand}
 use Rattle.rules.specs.Serving.{served_on_free_line, served_on_own_line}

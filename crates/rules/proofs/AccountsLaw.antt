@@ -1,5 +1,6 @@
--- The law of accounts: of every run of a new machine, the account of its answers is the account of its committed
--- transactions run alone exactly in the orders that keep logical time among those that clash.
+-- The law of accounts, of every run of a new machine: the account of its answers is the account of
+-- its committed transactions executed alone exactly in the orders that keep conflicting
+-- transactions in logical time.
 use Rattle.std.proofs.Common.{◌≡◌, ℕ, [], Some, None, Option, sym, refl, ap, subst, inl, arith}
 use Rattle.protocol.specs.declared.fault.Fault.{Fault}
 use Rattle.memory.specs.Lines.{Lines}
@@ -10,16 +11,16 @@ use Rattle.rules.specs.Runs.{run}
 use Rattle.rules.specs.Transactions.{transaction_named}
 use Rattle.rules.specs.Ledger.{Ledger, new_ledger, ledger_of}
 use Rattle.rules.specs.Laws.{AccountsAgree, LawOfAccounts}
-use Rattle.rules.proofs.Replay.{each_weaker}
-use Rattle.rules.proofs.Serial.{Right, Serial, accounts_agree}
+use Rattle.rules.proofs.SerialAccount.{each_weaker}
+use Rattle.rules.proofs.SerialOrders.{IsRightSource, Serial, accounts_agree}
 use Rattle.rules.proofs.History.{ReadNow}
 use Rattle.rules.proofs.Ledgers.{hold}
-use Rattle.rules.proofs.Invariant.{Inv}
+use Rattle.rules.proofs.Invariant.{Invariant}
 use Rattle.rules.proofs.Calls.{run_keeps, new_keeps, no_writer, refused_stays}
 
--- The four facts are part of the invariant.
+-- The invariant contains the four facts of SerialOrders.
 serial :
-    (k : Kind) (first : Lines) (E : ℕ → ℕ → Type 0) (m : Machine k) (l : Ledger) → Inv k first E m l
+    (k : Kind) (first : Lines) (E : ℕ → ℕ → Type 0) (m : Machine k) (l : Ledger) → Invariant k first E m l
     → Serial first l.committed m.lines
 serial k first E m l I =
     record {
@@ -29,14 +30,14 @@ serial k first E m l I =
           each_weaker
           (ReadNow k first l.committed (hold l) m.book i (transaction_named l.committed i).stamp
           (transaction_named l.committed i).warp)
-          (Right first l.committed i (transaction_named l.committed i).stamp (transaction_named l.committed i).warp)
+          (IsRightSource first l.committed i (transaction_named l.committed i).stamp (transaction_named l.committed i).warp)
           (λ line v f r. r.right) (transaction_named l.committed i).actions (I.history.past i low);
       last = I.history.core.last;
       warps = I.history.core.warps;
       there = I.history.core.there;
     }
 
--- They hold of no transactions at all.
+-- They hold if there are no transactions.
 nothing_serial : (first : Lines) → Serial first [] first
 nothing_serial first =
     record {

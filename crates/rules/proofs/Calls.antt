@@ -1,5 +1,8 @@
--- Every call keeps the invariant of a run, refused ones too, and so does every run of a new machine.
-use Rattle.std.proofs.Common.{◌≡◌, ℕ, zero, suc, ◌<◌, ◌≤◌, Bool, true, false, cond, ◌&&◌, eqb, ltb, leb, ◌⊎◌, List, [], ◌∷◌, map, length, get_or, is_some, Some, None, fold, Option, sym, refl, ap, ◌∙◌, subst, arith}
+-- Every call keeps the invariant of a run, refused ones too, and so does every run of a new
+-- machine.
+use Rattle.std.proofs.Common.{◌≡◌, ℕ, zero, suc, ◌<◌, ◌≤◌, Bool, true, false, cond, ◌&&◌, eqb, ltb}
+use Rattle.std.proofs.Common.{leb, ◌⊎◌, List, [], ◌∷◌, map, length, get_or, is_some, Some, None}
+use Rattle.std.proofs.Common.{fold, Option, sym, refl, ap, ◌∙◌, subst, arith}
 use Rattle.std.proofs.lemmas.List.{length-map}
 use Rattle.std.proofs.lemmas.List.Sums.{fold_push}
 use Rattle.std.proofs.lemmas.Bool.{both_ways, ltb-true, leb-true, eqb-true, le-ltb, and_parts}
@@ -26,36 +29,41 @@ use Rattle.rules.specs.declared.state.Request.{Request}
 use Rattle.rules.specs.Lists.{has}
 use Rattle.rules.specs.State.{Machine, idle_row, is_idle, is_waiting, warp_row_of, time_of}
 use Rattle.rules.specs.declared.verdict.Verdict.{Verdict}
-use Rattle.rules.specs.declared.verdict.Verdict.TheVariants.{OwnLine, Gone as VerdictGone, MustWait, GoOn}
+use Rattle.rules.specs.declared.verdict.Verdict.TheVariants.{OwnLine, Gone as VerdictGone, MustWait}
+use Rattle.rules.specs.declared.verdict.Verdict.TheVariants.{GoOn}
 use Rattle.rules.specs.Access.{line_state, decide}
 use Rattle.rules.specs.Queue.{Policy, request_of, is_full}
-use Rattle.rules.specs.Refusals.{phase_refuses, refusal_fault, fault_unless, has_line, number_fault, fault_of}
+use Rattle.rules.specs.Refusals.{phase_refuses, refusal_fault, fault_unless, has_line, number_fault}
+use Rattle.rules.specs.Refusals.{fault_of}
 use Rattle.rules.specs.Serving.{served_on_free_line, served_on_own_line}
-use Rattle.rules.specs.Steps.{ended_step, Step, with_log_written, step_by_verdict, access_step, verdict_at, fetched_step, fetch_step, accepted_step}
+use Rattle.rules.specs.Steps.{ended_step, Step, with_log_written, step_by_verdict, access_step}
+use Rattle.rules.specs.Steps.{verdict_at, fetched_step, fetch_step, accepted_step}
 use Rattle.rules.specs.Steps.{checked_step, step}
 use Rattle.rules.specs.Runs.{Run, event_of, run_with_call}
 use Rattle.rules.specs.Ending.{after_end}
 use Rattle.rules.specs.Making.{making_fault, first_warp_rows, new_machine}
 use Rattle.rules.specs.Transactions.{Transaction, is_written, transaction_named}
-use Rattle.rules.specs.Ledger.{without_current, with_committed, Ledger, ledger_after_settling, ledger_after_reply, ledger_after_event, new_ledger, ledger_of}
-use Rattle.rules.proofs.Verdicts.{Means, decide_means, room_means}
-use Rattle.rules.proofs.Invariant.{Inv}
-use Rattle.rules.proofs.OneWarp.{Room, serves_keeps, serves_own_keeps, waits_keeps, phase_keeps, ends_keep}
+use Rattle.rules.specs.Ledger.{without_current, with_committed, Ledger, ledger_after_settled}
+use Rattle.rules.specs.Ledger.{ledger_after_reply, ledger_after_event, new_ledger, ledger_of}
+use Rattle.rules.proofs.Verdicts.{VerdictMeans, decided_verdict_means, verdict_with_room_means}
+use Rattle.rules.proofs.Invariant.{Invariant}
+use Rattle.rules.proofs.OneWarp.{Room, serving_keeps, own_serving_keeps, waiting_keeps, phase_keeps}
+use Rattle.rules.proofs.OneWarp.{ends_keep}
 use Rattle.rules.proofs.OneWarp.{commits_keep, begin_keeps}
 use Rattle.rules.proofs.Tries.{has_transaction, ends_keeps}
 
 -- What a call that is not refused says of its warp and its numbers.
-or_none : (a b : Option Fault) → option_or a b ≡ None → (a ≡ None) × (b ≡ None)
-or_none None b e = (refl, e)
-or_none (Some f) b e = let z : ◌≡◌ {A = ℕ} 0 1 = cc in absurd (omega arith)
+neither_fault : (a b : Option Fault) → option_or a b ≡ None → (a ≡ None) × (b ≡ None)
+neither_fault None b e = (refl, e)
+neither_fault (Some f) b e = let z : ◌≡◌ {A = ℕ} 0 1 = cc in absurd (omega arith)
 
-unless_none : (t : Bool) (why : Refusal) (n : ℕ) → fault_unless t why n ≡ None → t ≡ true
-unless_none true why n e = refl
-unless_none false why n e = let z : ◌≡◌ {A = ℕ} 0 1 = cc in absurd (omega arith)
+test_holds : (t : Bool) (why : Refusal) (n : ℕ) → fault_unless t why n ≡ None → t ≡ true
+test_holds true why n e = refl
+test_holds false why n e = let z : ◌≡◌ {A = ℕ} 0 1 = cc in absurd (omega arith)
 
-faulty_none : (o : Option Refusal) (n : ℕ) → refusal_fault o n ≡ None → o ≡ None
-faulty_none None n e = refl
-faulty_none (Some why) n e = let z : ◌≡◌ {A = ℕ} 0 1 = cc in absurd (omega arith)
+no_refusal : (o : Option Refusal) (n : ℕ) → refusal_fault o n ≡ None → o ≡ None
+no_refusal None n e = refl
+no_refusal (Some why) n e = let z : ◌≡◌ {A = ℕ} 0 1 = cc in absurd (omega arith)
 
 refused : {A : Type 0} {R : Type 0} (why : R) → Some why ≡ None → A
 refused why e = let z : ◌≡◌ {A = ℕ} 0 1 = cc in absurd (omega arith)
@@ -66,7 +74,7 @@ begin_idle Open e = refused _ e
 begin_idle Waiting e = refused _ e
 begin_idle (Settled outcome) e = refused _ e
 
--- A warp that may go on.
+-- A warp whose transaction can go on.
 abbrev GoesOn : Phase → Type 0
 GoesOn p = (is_idle p ≡ false) × (is_waiting p ≡ false)
 
@@ -106,11 +114,11 @@ module _ (k : Kind) (first : Lines) (keeps : Keeps k) (policy : Policy k) (E₀ 
     abbrev E : ℕ → ℕ → Type 0
     E v n = E₀
 
-    module _ (m : Machine k) (l : Ledger) (I : Inv k first E m l) (w : ℕ) where
-      -- What a call leaves, with what the account hears of it.
+    module _ (m : Machine k) (l : Ledger) (I : Invariant k first E m l) (w : ℕ) where
+      -- What a call leaves, and the ledger after it.
       abbrev Kept : Op → Step k → Type 0
       Kept op s =
-          Inv k first E s.machine (fold ledger_after_settling (ledger_after_reply l w (warp_row_of m w).stamp op s.answer) s.settled)
+          Invariant k first E s.machine (fold ledger_after_settled (ledger_after_reply l w (warp_row_of m w).stamp op s.answer) s.settled)
 
       module _
           (tx : Transaction) (mine : l.current w ≡ Some tx) (calm : is_waiting (warp_row_of m w).phase ≡ false)
@@ -125,20 +133,20 @@ module _ (k : Kind) (first : Lines) (keeps : Keeps k) (policy : Policy k) (E₀ 
           accessed_keeps :
               (line : ℕ) → line < line_limit → is_some (first line) ≡ true → (access : Access) (v : Verdict)
               → Room access (warp_row_of m w)
-              → Means (k.owner m.book line ≡ Some w) access (line_state k m.book line) (time_of m w) v
+              → VerdictMeans (k.owner m.book line ≡ Some w) access (line_state k m.book line) (time_of m w) v
               → Kept (op_of access line) (step_by_verdict policy m w line access v)
           unfolding step_by_verdict served_on_free_line served_on_own_line
           accessed_keeps line low there Read OwnLine room owned =
-              serves_own_keeps k first keeps E m l I w tx mine line low there Read room owned
+              own_serving_keeps k first keeps E m l I w tx mine line low there Read room owned
           accessed_keeps line low there (Write value) OwnLine room owned =
-              serves_own_keeps k first keeps E m l I w tx mine line low there (Write value) room owned
+              own_serving_keeps k first keeps E m l I w tx mine line low there (Write value) room owned
           accessed_keeps line low there access (VerdictGone cause next) room u = gone_keeps (op_of access line) cause next
           accessed_keeps line low there access MustWait room stall =
-              waits_keeps k first keeps E m l I w tx mine line low there access calm stall
+              waiting_keeps k first keeps E m l I w tx mine line low there access calm stall
           accessed_keeps line low there Read GoOn room go =
-              serves_keeps k first keeps E m l I w tx mine line low there Read go
+              serving_keeps k first keeps E m l I w tx mine line low there Read go
           accessed_keeps line low there (Write value) GoOn room go =
-              serves_keeps k first keeps E m l I w tx mine line low there (Write value) go
+              serving_keeps k first keeps E m l I w tx mine line low there (Write value) go
 
           accesses_keeps :
               (line : ℕ) → has_line m line ≡ true → (access : Access) → Room access (warp_row_of m w)
@@ -147,10 +155,10 @@ module _ (k : Kind) (first : Lines) (keeps : Keeps k) (policy : Policy k) (E₀ 
               let p = and_parts (ltb line line_limit) (is_some (m.lines line)) h in
               accessed_keeps line (ltb-true line line_limit p.0)
               (sym (I.history.core.same_lines line) ∙ p.1) access (verdict_at policy m w line access) room
-              (room_means (k.owner m.book line ≡ Some w) access (line_state k m.book line) (time_of m w)
+              (verdict_with_room_means (k.owner m.book line ≡ Some w) access (line_state k m.book line) (time_of m w)
               (is_full policy.line_room policy.queue_room m.queue line) (warp_row_of m w).stamp
               (decide access (line_state k m.book line) (time_of m w))
-              (decide_means access (line_state k m.book line) (time_of m w)))
+              (decided_verdict_means access (line_state k m.book line) (time_of m w)))
 
           fetched_keeps : (outcome : Outcome) → Kept Fetch (fetched_step policy m w outcome)
           unfolding fetched_step
@@ -180,64 +188,64 @@ module _ (k : Kind) (first : Lines) (keeps : Keeps k) (policy : Policy k) (E₀ 
       fetches_keeps (Settled outcome) e r =
           let t = its (ap is_idle e) in fetched_keeps t.0 t.1 (ap is_waiting e) outcome
 
-      granted_keeps :
+      accepted_keeps :
           (op : Op) → w < length m.warp_rows → phase_refuses (warp_row_of m w).phase op ≡ None
           → number_fault m w op ≡ None → Kept op (accepted_step policy m w op)
-      granted_keeps Begin low phase number =
+      accepted_keeps Begin low phase number =
           begin_keeps k first keeps E m l I w low (begin_idle (warp_row_of m w).phase phase)
           (leb-true (warp_row_of m w).stamp last_stamp
-          (unless_none (leb (warp_row_of m w).stamp last_stamp) _ _ number))
-      granted_keeps (Load line) low phase number =
+          (test_holds (leb (warp_row_of m w).stamp last_stamp) _ _ number))
+      accepted_keeps (Load line) low phase number =
           let o = load_open line (warp_row_of m w).phase phase in
           let t = its o.0 in
-          accesses_keeps t.0 t.1 o.1 line (unless_none (has_line m line) _ _ number) Read tt
-      granted_keeps (Store line v) low phase number =
+          accesses_keeps t.0 t.1 o.1 line (test_holds (has_line m line) _ _ number) Read tt
+      accepted_keeps (Store line v) low phase number =
           let o = store_open line v (warp_row_of m w).phase phase in
           let t = its o.0 in
-          let n = or_none (fault_unless (has_line m line) _ _) _ number in
-          accesses_keeps t.0 t.1 o.1 line (unless_none (has_line m line) _ _ n.0) (Write v)
+          let n = neither_fault (fault_unless (has_line m line) _ _) _ number in
+          accesses_keeps t.0 t.1 o.1 line (test_holds (has_line m line) _ _ n.0) (Write v)
           (ltb-true (length (warp_row_of m w).log) log_limit
-          (unless_none (ltb (length (warp_row_of m w).log) log_limit) _ _ n.1))
-      granted_keeps Commit low phase number =
+          (test_holds (ltb (length (warp_row_of m w).log) log_limit) _ _ n.1))
+      accepted_keeps Commit low phase number =
           let o = commit_open (warp_row_of m w).phase phase in
           let t = its o.0 in
           commit_keeps t.0 t.1 o.1
-      granted_keeps Drop low phase number =
+      accepted_keeps Drop low phase number =
           let o = drop_open (warp_row_of m w).phase phase in
           let t = its o.0 in
           drop_keeps t.0 t.1 o.1
-      granted_keeps Fetch low phase number = fetches_keeps (warp_row_of m w).phase refl phase
+      accepted_keeps Fetch low phase number = fetches_keeps (warp_row_of m w).phase refl phase
 
     -- A call, refused or not.
     pub step_keeps :
-        (m : Machine k) (l : Ledger) → Inv k first E m l → (call : Call)
-        → Inv k first E (step policy m call).machine (ledger_after_event l (event_of policy m call))
+        (m : Machine k) (l : Ledger) → Invariant k first E m l → (call : Call)
+        → Invariant k first E (step policy m call).machine (ledger_after_event l (event_of policy m call))
     unfolding ledger_after_event
     step_keeps m l I call = by_fault (fault_of m call) refl
       where
         by_fault :
             (o : Option Fault) → fault_of m call ≡ o
-            → Inv k first E (checked_step policy m call o).machine
-            (fold ledger_after_settling
+            → Invariant k first E (checked_step policy m call o).machine
+            (fold ledger_after_settled
             (ledger_after_reply l call.warp (warp_row_of m call.warp).stamp call.op (checked_step policy m call o).answer)
             (checked_step policy m call o).settled)
         by_fault (Some fault) e = I
         by_fault None e =
-            let a = or_none (fault_unless (ltb call.warp (length m.warp_rows)) _ _) _ e in
-            let b = or_none (refusal_fault (phase_refuses (warp_row_of m call.warp).phase call.op) call.warp) _ a.1 in
-            granted_keeps m l I call.warp call.op
-            (ltb-true call.warp (length m.warp_rows) (unless_none (ltb call.warp (length m.warp_rows)) _ _ a.0))
-            (faulty_none (phase_refuses (warp_row_of m call.warp).phase call.op) call.warp b.0) b.1
+            let a = neither_fault (fault_unless (ltb call.warp (length m.warp_rows)) _ _) _ e in
+            let b = neither_fault (refusal_fault (phase_refuses (warp_row_of m call.warp).phase call.op) call.warp) _ a.1 in
+            accepted_keeps m l I call.warp call.op
+            (ltb-true call.warp (length m.warp_rows) (test_holds (ltb call.warp (length m.warp_rows)) _ _ a.0))
+            (no_refusal (phase_refuses (warp_row_of m call.warp).phase call.op) call.warp b.0) b.1
 
     -- A run.
     pub run_keeps :
-        (calls : List Call) (r : Run k) → Inv k first E r.machine (ledger_of r.events)
-        → Inv k first E (fold (run_with_call policy) r calls).machine (ledger_of (fold (run_with_call policy) r calls).events)
+        (calls : List Call) (r : Run k) → Invariant k first E r.machine (ledger_of r.events)
+        → Invariant k first E (fold (run_with_call policy) r calls).machine (ledger_of (fold (run_with_call policy) r calls).events)
     unfolding run_with_call
     run_keeps [] r I = I
     run_keeps (call ∷ calls) r I =
         run_keeps calls (run_with_call policy r call)
-        (subst (Inv k first E (step policy r.machine call).machine)
+        (subst (Invariant k first E (step policy r.machine call).machine)
         (sym (fold_push ledger_after_event new_ledger r.events (event_of policy r.machine call)))
         (step_keeps r.machine (ledger_of r.events) I call))
 
@@ -268,19 +276,19 @@ no_writer line i e = both_ways false refl e
 
 pub new_keeps :
     (k : Kind) (keeps : Keeps k) (E₀ : Type 0) (lines : Lines) (s : k.State) → k.Good s → (stamps : List ℕ)
-    → making_fault k s stamps ≡ None → Inv k lines (λ v n. E₀) (new_machine k lines s stamps) new_ledger
+    → making_fault k s stamps ≡ None → Invariant k lines (λ v n. E₀) (new_machine k lines s stamps) new_ledger
 new_keeps k keeps E₀ lines s good stamps e =
-    let a = or_none (fault_unless (ltb 0 (length stamps) && leb (length stamps) warp_limit) _ _) _ e in
+    let a = neither_fault (fault_unless (ltb 0 (length stamps) && leb (length stamps) warp_limit) _ _) _ e in
     let b =
     and_parts (ltb 0 (length stamps)) (leb (length stamps) warp_limit)
-    (unless_none (ltb 0 (length stamps) && leb (length stamps) warp_limit) _ _ a.0)
+    (test_holds (ltb 0 (length stamps) && leb (length stamps) warp_limit) _ _ a.0)
     in
-    let c = or_none _ (fault_unless (eqb (k.latest s) 0) _ _) a.1 in
-    let new : k.latest s ≡ 0 = eqb-true (k.latest s) 0 (unless_none (eqb (k.latest s) 0) _ _ c.1) in
+    let c = neither_fault _ (fault_unless (eqb (k.latest s) 0) _ _) a.1 in
+    let new : k.latest s ≡ 0 = eqb-true (k.latest s) 0 (test_holds (eqb (k.latest s) 0) _ _ c.1) in
     let few : length stamps ≤ 32 = leb-true (length stamps) warp_limit b.1 in
     subst
     (λ o.
-    Inv k lines (λ v n. E₀)
+    Invariant k lines (λ v n. E₀)
     (record { lines = lines; book = s; warp_rows = first_warp_rows o stamps; queue = [] }) new_ledger)
     (sym e)
     (record {
@@ -310,11 +318,11 @@ new_keeps k keeps E₀ lines s good stamps e =
       warp_rows = λ w. ap is_idle (all_idle stamps w);
       size = let q = length-map stamps idle_row in omega arith;
       waiters = λ w p. absurd (both_ways false refl (sym (ap is_waiting (all_idle stamps w)) ∙ p));
-      tallied = λ h tx p line x. let z : ◌≡◌ {A = ℕ} 0 1 = cc in absurd (omega arith);
+      counts = λ h tx p line x. let z : ◌≡◌ {A = ℕ} 0 1 = cc in absurd (omega arith);
       quiet = λ w p. refl;
     })
 
--- A refused call changes nothing, in the machine and in the account.
+-- A refused call changes neither the machine nor the ledger.
 pub refusal_changes_nothing :
     (k : Kind) (policy : Policy k) (m : Machine k) (l : Ledger) (call : Call) (f : Fault) → fault_of m call ≡ Some f
     → ((step policy m call).machine ≡ m) × (ledger_after_event l (event_of policy m call) ≡ l)
@@ -323,13 +331,13 @@ refusal_changes_nothing k policy m l call f e = (
   ap (λ o. (checked_step policy m call o).machine) e,
   ap
       (λ o.
-      fold ledger_after_settling
+      fold ledger_after_settled
       (ledger_after_reply l call.warp (warp_row_of m call.warp).stamp call.op (checked_step policy m call o).answer)
       (checked_step policy m call o).settled)
       e,
 )
 
--- A machine that was refused has no warps, and stays as it is.
+-- A machine that was refused when it was made has no warps, and no call changes it.
 no_warps_refuse :
     (k : Kind) (m : Machine k) (call : Call) → m.warp_rows ≡ [] → (f : Fault) × (fault_of m call ≡ Some f)
 no_warps_refuse k m call none = (

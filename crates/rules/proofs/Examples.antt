@@ -1,5 +1,7 @@
--- The examples, by computing the runs.
-use Rattle.std.proofs.Common.{◌≡◌, ℕ, zero, suc, ◌<◌, ◌≤◌, Bool, true, false, eqb, List, [], ◌∷◌, length, Some, None, Option, sym, refl, ap, ◌∙◌, subst, arith, lit<, lit≤}
+-- The examples hold: each run is computed, and its accounts are compared.
+use Rattle.std.proofs.Common.{◌≡◌, ℕ, zero, suc, ◌<◌, ◌≤◌, Bool, true, false, eqb, List, [], ◌∷◌}
+use Rattle.std.proofs.Common.{length, Some, None, Option, sym, refl, ap, ◌∙◌, subst, arith, lit<}
+use Rattle.std.proofs.Common.{lit≤}
 use Rattle.std.proofs.lemmas.Bool.{both_ways, eqb-true, ne_eqb}
 use Rattle.std.proofs.lemmas.Bool.Decides.{nat_tests}
 use Rattle.memory.specs.Lines.{Lines, lines_with, word_lines}
@@ -10,26 +12,32 @@ use Rattle.rules.specs.Logs.{log_entry}
 use Rattle.rules.specs.State.{Machine, warp_row_of}
 use Rattle.rules.specs.Queue.{request_of}
 use Rattle.rules.specs.Serving.{served_on_free_line}
-use Rattle.rules.specs.Ending.{after_withdrawal, after_settling, after_try, after_turn_with, after_turns, without_lines, after_giving_up, after_end}
+use Rattle.rules.specs.Ending.{after_withdrawal, after_settling, after_try, after_turn_with}
+use Rattle.rules.specs.Ending.{after_turns, without_lines, after_giving_up, after_end}
 use Rattle.rules.specs.Steps.{step_by_verdict, with_request_queued, fetched_step}
 use Rattle.rules.specs.Runs.{run_with_call}
-use Rattle.rules.specs.Transactions.{by, at_first, loaded, stored, load_action, Transaction, is_written}
+use Rattle.rules.specs.Transactions.{committed_store, initial_memory, loaded, stored, load_action}
+use Rattle.rules.specs.Transactions.{Transaction, is_written}
 use Rattle.rules.specs.Ledger.{Ledger, ledger_of, ledger_after_event}
 use Rattle.rules.specs.Account.{LoadResult, Account, account_after, serial_account, account_of}
 use Rattle.rules.specs.Laws.{IsHolder, is_waiting_now, WaitsFor, Leads, free, onward}
-use Rattle.rules.specs.Examples.{Sample, sample_run, sample_ledger, sample_commits, AgreeInOneOrder, AgreesInOneOrder, two_writers}
-use Rattle.rules.specs.Examples.{TwoWriters, writer_reader, WriterThenReader, reader_writer, ReaderThenWriter}
-use Rattle.rules.specs.Examples.{same_stamp, SameStamp, SettledLoadFound, chain, ChainOfThree, lost_holder, run_early}
-use Rattle.rules.specs.Examples.{StampKeptUntilFetched, StampTakenEarly, LostUpdateUnexplained}
-use Rattle.rules.proofs.Replay.{writers_alone}
+use Rattle.rules.specs.Examples.{Sample, sample_run, sample_ledger, sample_commits}
+use Rattle.rules.specs.Examples.{TransactionsAgreeInOneOrder, RunAgreesInOneOrder, two_writers}
+use Rattle.rules.specs.Examples.{TwoWriters, writer_reader, WriterThenReader, reader_writer}
+use Rattle.rules.specs.Examples.{ReaderThenWriter}
+use Rattle.rules.specs.Examples.{same_stamp, SameStamp, SettledLoadSeesCommit, chain, ChainOfThree}
+use Rattle.rules.specs.Examples.{lost_holder, wrong_run}
+use Rattle.rules.specs.Examples.{StampKeptUntilFetched, EarlyStampBreaksWaits}
+use Rattle.rules.specs.Examples.{LostUpdateUnexplained}
+use Rattle.rules.proofs.SerialAccount.{writers_alone}
 
--- Two names.
-two : (P : ℕ → Type 0) → P 0 → P 1 → (n : ℕ) → n < 2 → P n
-two P a b zero l = a
-two P a b (suc zero) l = b
-two P a b (suc (suc n)) l = absurd (omega arith)
+-- A fact for each of two names.
+for_each_of_two : (P : ℕ → Type 0) → P 0 → P 1 → (n : ℕ) → n < 2 → P n
+for_each_of_two P a b zero l = a
+for_each_of_two P a b (suc zero) l = b
+for_each_of_two P a b (suc (suc n)) l = absurd (omega arith)
 
--- The value that a list of loads begins with.
+-- The value of the first of some loads.
 abbrev first_value : List LoadResult → Option ℕ
 first_value [] = None
 first_value (g ∷ rest) = g.value
@@ -40,31 +48,31 @@ seven_eight e = let z : ◌≡◌ {A = ℕ} 7 8 = cc in omega arith
 seven_nine : ◌≡◌ {A = Option ℕ} (Some 7) (Some 9) → ⊥
 seven_nine e = let z : ◌≡◌ {A = ℕ} 7 9 = cc in omega arith
 
-pub settled_load_found : SettledLoadFound
+pub settled_load_found : SettledLoadSeesCommit
 unfolding run_with_call step_by_verdict served_on_free_line after_withdrawal after_settling after_try after_turn_with after_turns without_lines after_giving_up after_end with_request_queued fetched_step ledger_after_event
 settled_load_found = refl
 
--- Where the other account starts.
+-- The account before any transaction is executed alone.
 abbrev nothing : Account
 nothing = record { loads = λ n. []; last_values = word_lines (7 ∷ []); line_writers = λ line. [] }
 
--- What a name's loads got, in the run and alone.
+-- A transaction's loads get the same alone as in the run.
 abbrev SameLoads : List Transaction → Lines → List ℕ → ℕ → Type 0
 SameLoads txs memory order n = (account_of txs memory).loads n ≡ (serial_account (word_lines (7 ∷ [])) txs order).loads n
 
--- From what a run commits and leaves, written out, to the run.
-sampled :
+-- What is shown of transactions and a memory that are written out holds of the run that gives them.
+run_agrees :
     (s : Sample) (txs : List Transaction) (memory : Lines) (a b : ℕ) → sample_commits s ≡ txs → length txs ≡ 2
-    → (sample_run s).machine.lines ≡ memory → AgreeInOneOrder (word_lines s.values) txs memory a b → AgreesInOneOrder s a b
-sampled s txs memory a b e n m h =
+    → (sample_run s).machine.lines ≡ memory → TransactionsAgreeInOneOrder (word_lines s.values) txs memory a b → RunAgreesInOneOrder s a b
+run_agrees s txs memory a b e n m h =
     record {
       commits_two = ap length e ∙ n;
       apart =
-          subst (λ x. AgreeInOneOrder (word_lines s.values) (sample_commits s) x a b) (sym m)
-          (subst (λ x. AgreeInOneOrder (word_lines s.values) x memory a b) (sym e) h);
+          subst (λ x. TransactionsAgreeInOneOrder (word_lines s.values) (sample_commits s) x a b) (sym m)
+          (subst (λ x. TransactionsAgreeInOneOrder (word_lines s.values) x memory a b) (sym e) h);
     }
 
--- Two write one line.
+-- Two transactions store to one line.
 abbrev two_writers_txs : List Transaction
 two_writers_txs =
     record { stamp = 0; warp = 0; actions = stored (log_entry 0 8) ∷ [] }
@@ -81,15 +89,15 @@ two_writers_leaves : (sample_run two_writers).machine.lines ≡ two_writers_memo
 unfolding run_with_call step_by_verdict served_on_free_line after_turns without_lines after_giving_up after_end ledger_after_event
 two_writers_leaves = refl
 
-two_writers_case : AgreeInOneOrder (word_lines (7 ∷ [])) two_writers_txs two_writers_memory 0 1
+two_writers_case : TransactionsAgreeInOneOrder (word_lines (7 ∷ [])) two_writers_txs two_writers_memory 0 1
 unfolding account_after
 two_writers_case =
     record {
-      clash = (0, refl);
+      conflict = (0, refl);
       in_time = refl;
       agrees =
           record {
-            same_loads = two (SameLoads two_writers_txs two_writers_memory (0 ∷ 1 ∷ [])) refl refl;
+            same_loads = for_each_of_two (SameLoads two_writers_txs two_writers_memory (0 ∷ 1 ∷ [])) refl refl;
             same_values = λ line. refl;
             same_writers =
                 λ line.
@@ -105,14 +113,14 @@ two_writers_case =
 
 pub two_writers_apart : TwoWriters
 two_writers_apart =
-    sampled two_writers two_writers_txs two_writers_memory 0 1
+    run_agrees two_writers two_writers_txs two_writers_memory 0 1
     two_writers_commits refl two_writers_leaves two_writers_case
 
--- One writes a line, and a later one reads it.
+-- One transaction stores to a line, and a later one loads it.
 abbrev writer_reader_txs : List Transaction
 writer_reader_txs =
     record { stamp = 0; warp = 0; actions = stored (log_entry 0 8) ∷ [] }
-    ∷ record { stamp = 5; warp = 1; actions = loaded (load_action 0 8 (by 0)) ∷ [] } ∷ []
+    ∷ record { stamp = 5; warp = 1; actions = loaded (load_action 0 8 (committed_store 0)) ∷ [] } ∷ []
 
 abbrev writer_reader_memory : Lines
 writer_reader_memory = lines_with (word_lines (7 ∷ [])) 0 8
@@ -125,15 +133,15 @@ writer_reader_leaves : (sample_run writer_reader).machine.lines ≡ writer_reade
 unfolding run_with_call step_by_verdict served_on_free_line after_turns without_lines after_giving_up after_end ledger_after_event
 writer_reader_leaves = refl
 
-writer_reader_case : AgreeInOneOrder (word_lines (7 ∷ [])) writer_reader_txs writer_reader_memory 0 1
+writer_reader_case : TransactionsAgreeInOneOrder (word_lines (7 ∷ [])) writer_reader_txs writer_reader_memory 0 1
 unfolding account_after
 writer_reader_case =
     record {
-      clash = (0, refl);
+      conflict = (0, refl);
       in_time = refl;
       agrees =
           record {
-            same_loads = two (SameLoads writer_reader_txs writer_reader_memory (0 ∷ 1 ∷ [])) refl refl;
+            same_loads = for_each_of_two (SameLoads writer_reader_txs writer_reader_memory (0 ∷ 1 ∷ [])) refl refl;
             same_values = λ line. refl;
             same_writers =
                 λ line.
@@ -146,14 +154,14 @@ writer_reader_case =
 
 pub writer_reader_apart : WriterThenReader
 writer_reader_apart =
-    sampled writer_reader writer_reader_txs writer_reader_memory 0 1
+    run_agrees writer_reader writer_reader_txs writer_reader_memory 0 1
     writer_reader_commits refl writer_reader_leaves writer_reader_case
 
--- One reads a line, and a later one writes it and commits first.
+-- One transaction loads a line, and a later one stores to it and commits first.
 abbrev reader_writer_txs : List Transaction
 reader_writer_txs =
     record { stamp = 5; warp = 1; actions = stored (log_entry 0 8) ∷ [] }
-    ∷ record { stamp = 0; warp = 0; actions = loaded (load_action 0 7 at_first) ∷ [] } ∷ []
+    ∷ record { stamp = 0; warp = 0; actions = loaded (load_action 0 7 initial_memory) ∷ [] } ∷ []
 
 abbrev reader_writer_memory : Lines
 reader_writer_memory = lines_with (word_lines (7 ∷ [])) 0 8
@@ -166,15 +174,15 @@ reader_writer_leaves : (sample_run reader_writer).machine.lines ≡ reader_write
 unfolding run_with_call step_by_verdict served_on_free_line after_turns without_lines after_giving_up after_end ledger_after_event
 reader_writer_leaves = refl
 
-reader_writer_case : AgreeInOneOrder (word_lines (7 ∷ [])) reader_writer_txs reader_writer_memory 1 0
+reader_writer_case : TransactionsAgreeInOneOrder (word_lines (7 ∷ [])) reader_writer_txs reader_writer_memory 1 0
 unfolding account_after
 reader_writer_case =
     record {
-      clash = (0, refl);
+      conflict = (0, refl);
       in_time = refl;
       agrees =
           record {
-            same_loads = two (SameLoads reader_writer_txs reader_writer_memory (1 ∷ 0 ∷ [])) refl refl;
+            same_loads = for_each_of_two (SameLoads reader_writer_txs reader_writer_memory (1 ∷ 0 ∷ [])) refl refl;
             same_values = λ line. refl;
             same_writers =
                 λ line.
@@ -187,13 +195,13 @@ reader_writer_case =
 
 pub reader_writer_apart : ReaderThenWriter
 reader_writer_apart =
-    sampled reader_writer reader_writer_txs reader_writer_memory 1 0
+    run_agrees reader_writer reader_writer_txs reader_writer_memory 1 0
     reader_writer_commits refl reader_writer_leaves reader_writer_case
 
--- One warp, twice at one stamp.
+-- One warp commits two transactions at one stamp.
 abbrev same_stamp_txs : List Transaction
 same_stamp_txs =
-    record { stamp = 5; warp = 0; actions = loaded (load_action 0 7 at_first) ∷ [] }
+    record { stamp = 5; warp = 0; actions = loaded (load_action 0 7 initial_memory) ∷ [] }
     ∷ record { stamp = 5; warp = 0; actions = stored (log_entry 0 9) ∷ [] } ∷ []
 
 abbrev same_stamp_memory : Lines
@@ -207,15 +215,15 @@ same_stamp_leaves : (sample_run same_stamp).machine.lines ≡ same_stamp_memory
 unfolding run_with_call step_by_verdict served_on_free_line after_turns without_lines after_giving_up after_end ledger_after_event
 same_stamp_leaves = refl
 
-same_stamp_case : AgreeInOneOrder (word_lines (7 ∷ [])) same_stamp_txs same_stamp_memory 0 1
+same_stamp_case : TransactionsAgreeInOneOrder (word_lines (7 ∷ [])) same_stamp_txs same_stamp_memory 0 1
 unfolding account_after
 same_stamp_case =
     record {
-      clash = (0, refl);
+      conflict = (0, refl);
       in_time = refl;
       agrees =
           record {
-            same_loads = two (SameLoads same_stamp_txs same_stamp_memory (0 ∷ 1 ∷ [])) refl refl;
+            same_loads = for_each_of_two (SameLoads same_stamp_txs same_stamp_memory (0 ∷ 1 ∷ [])) refl refl;
             same_values = λ line. refl;
             same_writers =
                 λ line.
@@ -228,7 +236,7 @@ same_stamp_case =
 
 pub same_stamp_apart : SameStamp
 same_stamp_apart =
-    sampled same_stamp same_stamp_txs same_stamp_memory 0 1
+    run_agrees same_stamp same_stamp_txs same_stamp_memory 0 1
     same_stamp_commits refl same_stamp_leaves same_stamp_case
 
 pub lost_update_unexplained : LostUpdateUnexplained
@@ -238,12 +246,13 @@ lost_update_unexplained = (
   λ e. seven_nine (ap first_value (e.same_loads 0 (omega arith))),
 )
 
--- What a warp's transaction, if it has one, stored to.
+-- A warp's transaction, if it has one, stored to the line.
 abbrev stores_in : Option Transaction → ℕ → Bool
 stores_in None line = false
 stores_in (Some tx) line = is_written tx.actions line
 
--- Of four warps, and no more with a transaction, one alone holds a line.
+-- If only four warps have transactions and three of them do not hold the line, the fourth is its
+-- only holder.
 four :
     (P : ℕ → Type 0) → P 0 → P 1 → P 2 → P 3 → ((v : ℕ) → 4 ≤ v → P v) → (v : ℕ) → P v
 four P a b c d rest zero = a
@@ -266,7 +275,7 @@ only_holder l line h low no_more a b c d v o =
     beyond v high =
         ap (λ t. stores_in t line) (no_more v high) ∙ sym (ne_eqb v h (λ e. omega arith))
 
--- A chain of waits: what its warps have done.
+-- The transactions of the warps in the chain of waits.
 chain_ends : (v : ℕ) → 4 ≤ v → (sample_ledger chain).current v ≡ None
 unfolding run_with_call step_by_verdict served_on_free_line with_request_queued ledger_after_event
 chain_ends v high = grind (arith, nat_tests)
@@ -315,7 +324,7 @@ free_0 = refl
 pub chain_of_three : ChainOfThree
 chain_of_three = onward waits_3 (onward waits_2 (onward waits_1 (free free_0)))
 
--- A holder whose request came out as gone keeps its stamp until it fetches.
+-- A holder whose request was aborted keeps its stamp until it fetches the outcome.
 holder_ends : (v : ℕ) → 4 ≤ v → (sample_ledger lost_holder).current v ≡ None
 unfolding run_with_call step_by_verdict served_on_free_line after_withdrawal after_settling after_try after_turn_with after_turns without_lines after_giving_up after_end with_request_queued ledger_after_event
 holder_ends v high = grind (arith, nat_tests)
@@ -339,7 +348,8 @@ free_2 = refl
 pub stamp_kept : StampKeptUntilFetched
 stamp_kept = onward kept_3 (free free_2)
 
--- If it takes the next one before, the warp that waits for it has the smaller stamp, and waits for no smaller one.
+-- If it takes the next stamp before that, the warp that waits for it has the smaller stamp, and so
+-- does not wait for a smaller one.
 no_way_on :
     (m : Machine exact) (l : Ledger) (w v steps : ℕ) (r : Request) → is_waiting_now m w ≡ true
     → request_of m.queue w ≡ Some r → IsHolder l r.line v
@@ -353,26 +363,26 @@ no_way_on m l w v steps r with_request_queued asks holds above (onward {h = h} s
     in
     omega arith
 
-early_waits : is_waiting_now (run_early lost_holder).machine 3 ≡ true
+early_waits : is_waiting_now (wrong_run lost_holder).machine 3 ≡ true
 unfolding run_with_call step_by_verdict served_on_free_line after_withdrawal after_settling after_try after_turn_with after_turns without_lines after_giving_up after_end with_request_queued
 early_waits = refl
 
 early_asks :
-    request_of (run_early lost_holder).machine.queue 3 ≡ Some (record { warp = 3; line = 1; access = Read })
+    request_of (wrong_run lost_holder).machine.queue 3 ≡ Some (record { warp = 3; line = 1; access = Read })
 unfolding run_with_call step_by_verdict served_on_free_line after_withdrawal after_settling after_try after_turn_with after_turns without_lines after_giving_up after_end with_request_queued
 early_asks = refl
 
-early_holds : IsHolder (ledger_of (run_early lost_holder).events) 1 2
+early_holds : IsHolder (ledger_of (wrong_run lost_holder).events) 1 2
 unfolding run_with_call step_by_verdict served_on_free_line after_withdrawal after_settling after_try after_turn_with after_turns without_lines after_giving_up after_end with_request_queued ledger_after_event
 early_holds = (record { stamp = 5; warp = 2; actions = stored (log_entry 1 2) ∷ [] }, refl, refl)
 
 early_stamps :
-    (warp_row_of (run_early lost_holder).machine 3).stamp ≤ (warp_row_of (run_early lost_holder).machine 2).stamp
+    (warp_row_of (wrong_run lost_holder).machine 3).stamp ≤ (warp_row_of (wrong_run lost_holder).machine 2).stamp
 unfolding run_with_call step_by_verdict served_on_free_line after_withdrawal after_settling after_try after_turn_with after_turns without_lines after_giving_up after_end with_request_queued
 early_stamps = lit≤ tt
 
-pub stamp_taken_early : StampTakenEarly
+pub stamp_taken_early : EarlyStampBreaksWaits
 stamp_taken_early h =
     let r = h 3 early_waits in
-    no_way_on (run_early lost_holder).machine (ledger_of (run_early lost_holder).events) 3 2 r.0
+    no_way_on (wrong_run lost_holder).machine (ledger_of (wrong_run lost_holder).events) 3 2 r.0
     (record { warp = 3; line = 1; access = Read }) early_waits early_asks early_holds early_stamps r.1

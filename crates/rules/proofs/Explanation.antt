@@ -1,5 +1,8 @@
--- Some order explains every run: that of logical time. The names are sorted by it; the law of accounts does the rest.
-use Rattle.std.proofs.Common.{◌≡◌, ℕ, zero, suc, ◌+◌, ◌<◌, Bool, true, false, cond, ◌&&◌, ◌||◌, eqb, ltb, ◌⊎◌, List, [], ◌∷◌, length, sym, refl, ap, ◌∙◌, inl, inr, ⊎_elim, arith}
+-- Some order explains every run: that of logical time. The names are sorted by it, and the law of
+-- accounts does the rest.
+use Rattle.std.proofs.Common.{◌≡◌, ℕ, zero, suc, ◌+◌, ◌<◌, Bool, true, false, cond, ◌&&◌, ◌||◌, eqb}
+use Rattle.std.proofs.Common.{ltb, ◌⊎◌, List, [], ◌∷◌, length, sym, refl, ap, ◌∙◌, inl, inr, ⊎_elim}
+use Rattle.std.proofs.Common.{arith}
 use Rattle.std.proofs.lemmas.Bool.{both_ways, eqb-true, cases_Bool, lt-ltb, or_cases}
 use Rattle.std.proofs.lemmas.Bool.Decides.{nat_tests}
 use Rattle.book.specs.Meaning.{Kind}
@@ -11,9 +14,9 @@ use Rattle.rules.specs.Ledger.{ledger_of}
 use Rattle.rules.specs.Account.{EachOnce}
 use Rattle.rules.specs.LogicalTime.{is_earlier, IsInLogicalOrder}
 use Rattle.rules.specs.Laws.{LawOfAccounts, LawOfExplanation}
-use Rattle.rules.proofs.ListFacts.{has_count, count_append, has_upto}
+use Rattle.rules.proofs.ListFacts.{has_count, count_append, has_numbers_below}
 
--- A number goes in before the first that it comes before; a list of numbers is sorted.
+-- Sorting by insertion: a number goes before the first one that it must come before.
 inserted : (ℕ → ℕ → Bool) → ℕ → List ℕ → List ℕ
 inserted before n [] = n ∷ []
 inserted before n (x ∷ xs) = cond (before n x) (n ∷ x ∷ xs) (x ∷ inserted before n xs)
@@ -22,7 +25,7 @@ sorted : (ℕ → ℕ → Bool) → List ℕ → List ℕ
 sorted before [] = []
 sorted before (n ∷ ns) = inserted before n (sorted before ns)
 
--- Each number stands there as often as before.
+-- Sorting keeps how often each number occurs.
 count_inserted :
     (before : ℕ → ℕ → Bool) (n z : ℕ) (xs : List ℕ)
     → occurrences z (inserted before n xs) ≡ cond (eqb n z) 1 0 + occurrences z xs
@@ -56,22 +59,22 @@ has_inserted before n z xs =
     has_count z (inserted before n xs) ∙ ap (ltb 0) (count_inserted before n z xs)
     ∙ sym (has_count z (n ∷ xs))
 
-count_upto : (z n : ℕ) → occurrences z (numbers_below n) ≡ cond (ltb z n) 1 0
-count_upto z zero = grind (arith, nat_tests)
-count_upto z (suc n) =
-    count_append z (numbers_below n) (n ∷ []) ∙ ap (λ c. c + (cond (eqb n z) 1 0 + 0)) (count_upto z n)
+count_numbers_below : (z n : ℕ) → occurrences z (numbers_below n) ≡ cond (ltb z n) 1 0
+count_numbers_below z zero = grind (arith, nat_tests)
+count_numbers_below z (suc n) =
+    count_append z (numbers_below n) (n ∷ []) ∙ ap (λ c. c + (cond (eqb n z) 1 0 + 0)) (count_numbers_below z n)
     ∙ one_more z n
   where
     one_more : (z n : ℕ) → cond (ltb z n) 1 0 + (cond (eqb n z) 1 0 + 0) ≡ cond (ltb z (suc n)) 1 0
     one_more z n = grind (arith, nat_tests)
 
--- An order in which nothing comes before itself.
+-- A strict order: transitive, and nothing comes before itself.
 record Strict (before : ℕ → ℕ → Bool) : Type 0 where
   never_itself : (a : ℕ) → before a a ≡ false
   onward : (a b c : ℕ) → before a b ≡ true → before b c ≡ true → before a c ≡ true
 
 module _ (before : ℕ → ℕ → Bool) (strict : Strict before) where
-  -- Nothing that stands later comes before.
+  -- The list is in order: no later number must come before an earlier one.
   InOrder : List ℕ → Type 0
   InOrder [] = Unit {0}
   InOrder (x ∷ xs) = ((y : ℕ) → has y xs ≡ true → before y x ≡ false) × InOrder xs
@@ -109,7 +112,7 @@ module _ (before : ℕ → ℕ → Bool) (strict : Strict before) where
   sorted_in_order [] = tt
   sorted_in_order (n ∷ ns) = inserted_in_order n (sorted before ns) (sorted_in_order ns)
 
-  -- Of two numbers the one that comes before stands before.
+  -- In a sorted list, of two numbers the one that must come before is before.
   stands :
       (xs : List ℕ) → InOrder xs → (a b : ℕ) → has a xs ≡ true → has b xs ≡ true → before a b ≡ true
       → is_before xs a b ≡ true
@@ -132,7 +135,7 @@ module _ (before : ℕ → ℕ → Bool) (strict : Strict before) where
           absurd (both_ways (before a x) (h.0 a k) (ap (before a) (eqb-true x b r) ∙ first))
       step false e k (inr r) rest = rest k r
 
--- Logical time is such an order.
+-- Logical time is a strict order.
 key_before : (s w a t v b : ℕ) → Bool
 key_before s w a t v b = (ltb s t || (eqb s t && ltb w v)) || (eqb s t && (eqb w v && ltb a b))
 
@@ -167,7 +170,7 @@ unfolding in_time
 some_logical_order txs = (
   in_time txs,
   once,
-  λ a b p q clash first.
+  λ a b p q conflict first.
       stands (is_earlier txs) (time_is_strict txs) (in_time txs)
       (sorted_in_order (is_earlier txs) (time_is_strict txs) (numbers_below (length txs))) a b
       (stands_there a p) (stands_there b q) first,
@@ -175,11 +178,11 @@ some_logical_order txs = (
   where
     once : EachOnce (in_time txs) (length txs)
     once name =
-        count_sorted (is_earlier txs) name (numbers_below (length txs)) ∙ count_upto name (length txs)
+        count_sorted (is_earlier txs) name (numbers_below (length txs)) ∙ count_numbers_below name (length txs)
 
     stands_there : (a : ℕ) → a < length txs → has a (in_time txs) ≡ true
     stands_there a p =
-        has_sorted (is_earlier txs) a (numbers_below (length txs)) ∙ has_upto a (length txs) ∙ lt-ltb a (length txs) p
+        has_sorted (is_earlier txs) a (numbers_below (length txs)) ∙ has_numbers_below a (length txs) ∙ lt-ltb a (length txs) p
 
 -- So the law of accounts gives an order that explains the run.
 pub law_of_explanation : (k : Kind) → LawOfAccounts k → LawOfExplanation k

@@ -1,5 +1,8 @@
--- The invariant of a run: machine, account and waits, and how moves of one warp keep it.
-use Rattle.std.proofs.Common.{◌≡◌, ℕ, ◌<◌, ◌≤◌, Bool, true, false, cond, eqb, ◌⊎◌, ◌∷◌, length, is_some, Some, None, Option, sym, refl, ap, ◌∙◌, subst, inl, inr, ⊎_elim, arith}
+-- The invariant of a run, which links machine, ledger and waiting requests, and how a change of one
+-- warp keeps it.
+use Rattle.std.proofs.Common.{◌≡◌, ℕ, ◌<◌, ◌≤◌, Bool, true, false, cond, eqb, ◌⊎◌, ◌∷◌, length}
+use Rattle.std.proofs.Common.{is_some, Some, None, Option, sym, refl, ap, ◌∙◌, subst, inl, inr}
+use Rattle.std.proofs.Common.{⊎_elim, arith}
 use Rattle.std.proofs.lemmas.Bool.{eqb-true, ne_eqb, cases_eq}
 use Rattle.std.specs.Option.{option_map}
 use Rattle.protocol.specs.Limits.{line_limit, last_stamp}
@@ -10,8 +13,8 @@ use Rattle.rules.specs.State.{WarpRow, Machine, is_idle, is_waiting, warp_row_of
 use Rattle.rules.specs.Queue.{request_of}
 use Rattle.rules.specs.Transactions.{Action, Transaction, is_written, transaction_stores}
 use Rattle.rules.specs.Ledger.{Ledger, with_action, with_current}
-use Rattle.rules.proofs.ListFacts.{eqb_same}
-use Rattle.rules.proofs.Tallies.{Tallied}
+use Rattle.rules.proofs.ListFacts.{eqb_refl}
+use Rattle.rules.proofs.StoreCounts.{CountsAgree}
 use Rattle.rules.proofs.Ledgers.{hold_in, hold, hold_writes, History}
 use Rattle.rules.proofs.Logs.{busy_low}
 
@@ -26,7 +29,7 @@ abbrev pub Matches : WarpRow → Option Transaction → Type 0
 Matches warp_row None = is_idle warp_row.phase ≡ true
 Matches warp_row (Some tx) = Running warp_row tx
 
--- A line is held at a stamp below one.
+-- A line is held at a stamp below t.
 pub record Blocked (l : Ledger) (line t : ℕ) : Type 0 where
   pub by_warp : ℕ
   pub at_stamp : ℕ
@@ -34,7 +37,8 @@ pub record Blocked (l : Ledger) (line t : ℕ) : Type 0 where
   pub falls : at_stamp < t
 
 module _ (k : Kind) (first : Lines) where
-  -- A warp that waits: its request, and that its line is held at a smaller stamp, unless it is exempt for now.
+  -- A warp that waits: its request, and that its line is held at a smaller stamp. While retries go
+  -- on, warps that are still to be retried are exempt (E) from the latter.
   pub record Waiter (E : ℕ → ℕ → Type 0) (m : Machine k) (l : Ledger) (w : ℕ) : Type 0 where
     pub request : Request
     pub requested : request_of m.queue w ≡ Some request
@@ -42,21 +46,21 @@ module _ (k : Kind) (first : Lines) where
     pub there : is_some (first request.line) ≡ true
     pub blocked : E w request.line ⊎ Blocked l request.line (warp_row_of m w).stamp
 
-  pub record Inv (E : ℕ → ℕ → Type 0) (m : Machine k) (l : Ledger) : Type 0 where
+  pub record Invariant (E : ℕ → ℕ → Type 0) (m : Machine k) (l : Ledger) : Type 0 where
     pub good : k.Good m.book
     pub history : History k first l m.lines m.book
     pub warp_rows : (w : ℕ) → Matches (warp_row_of m w) (l.current w)
     pub size : length m.warp_rows ≤ 32
     pub waiters : (w : ℕ) → is_waiting (warp_row_of m w).phase ≡ true → Waiter E m l w
     pub quiet : (w : ℕ) → is_waiting (warp_row_of m w).phase ≡ false → request_of m.queue w ≡ None
-    pub tallied : Tallied k l m.book
+    pub counts : CountsAgree k l m.book
 
-  -- What is exempt may change, as long as no waiting warp is left behind.
+  -- The exemptions may change, as long as each waiting warp is exempt or blocked.
   pub exempt :
-      (E E' : ℕ → ℕ → Type 0) (m : Machine k) (l : Ledger) → Inv E m l
+      (E E' : ℕ → ℕ → Type 0) (m : Machine k) (l : Ledger) → Invariant E m l
       → ((w : ℕ) (r : Request) → is_waiting (warp_row_of m w).phase ≡ true → request_of m.queue w ≡ Some r
       → E w r.line → E' w r.line ⊎ Blocked l r.line (warp_row_of m w).stamp)
-      → Inv E' m l
+      → Invariant E' m l
   exempt E E' m l I to =
       record {
         good = I.good;
@@ -74,12 +78,12 @@ module _ (k : Kind) (first : Lines) where
               blocked = ⊎_elim (to w old.request e old.requested) inr old.blocked;
             };
         quiet = I.quiet;
-        tallied = I.tallied;
+        counts = I.counts;
       }
 
-  -- One warp moves, and the others stay where they are.
-  pub one_warp_row :
-      (E E' : ℕ → ℕ → Type 0) (m m' : Machine k) (l l' : Ledger) (w : ℕ) → Inv E m l
+  -- One warp's row is replaced, and the other rows stay.
+  pub one_row_keeps :
+      (E E' : ℕ → ℕ → Type 0) (m m' : Machine k) (l l' : Ledger) (w : ℕ) → Invariant E m l
       → k.Good m'.book → History k first l' m'.lines m'.book
       → length m'.warp_rows ≡ length m.warp_rows
       → ((v : ℕ) → (v ≡ w → ⊥) → warp_row_of m' v ≡ warp_row_of m v)
@@ -89,8 +93,8 @@ module _ (k : Kind) (first : Lines) where
       → Matches (warp_row_of m' w) (l'.current w)
       → (is_waiting (warp_row_of m' w).phase ≡ true → Waiter E' m' l' w)
       → (is_waiting (warp_row_of m' w).phase ≡ false → request_of m'.queue w ≡ None)
-      → Tallied k l' m'.book → Inv E' m' l'
-  one_warp_row E E' m m' l l' w I good history size warp_rows currents requests blocks mine waiter quiet_here tally =
+      → CountsAgree k l' m'.book → Invariant E' m' l'
+  one_row_keeps E E' m m' l l' w I good history size warp_rows currents requests blocks mine waiter quiet_here tally =
       record {
         good = good;
         history = history;
@@ -98,7 +102,7 @@ module _ (k : Kind) (first : Lines) where
         size = let a = I.size in omega arith;
         waiters = λ v. waiters_now v (cases_eq v w);
         quiet = λ v. quiet_now v (cases_eq v w);
-        tallied = tally;
+        counts = tally;
       }
     where
       warp_rows_now : (v : ℕ) → (v ≡ w) ⊎ (v ≡ w → ⊥) → Matches (warp_row_of m' v) (l'.current v)
@@ -135,17 +139,17 @@ module _ (k : Kind) (first : Lines) where
       quiet_now v (inr n) p =
           requests v n ∙ I.quiet v (subst (λ (warp_row : WarpRow). is_waiting warp_row.phase ≡ false) (warp_rows v n) p)
 
-  -- Phases, stamps and queue stay, and what is held stays held.
-  pub steady :
-      (E : ℕ → ℕ → Type 0) (m m' : Machine k) (l l' : Ledger) → Inv E m l
+  -- Phases, stamps and queue stay, and held lines stay held.
+  pub same_phases_keep :
+      (E : ℕ → ℕ → Type 0) (m m' : Machine k) (l l' : Ledger) → Invariant E m l
       → k.Good m'.book → History k first l' m'.lines m'.book
       → length m'.warp_rows ≡ length m.warp_rows → m'.queue ≡ m.queue
       → ((v : ℕ) → (warp_row_of m' v).phase ≡ (warp_row_of m v).phase)
       → ((v : ℕ) → (warp_row_of m' v).stamp ≡ (warp_row_of m v).stamp)
       → ((h line t : ℕ) → hold l h line ≡ Some t → hold l' h line ≡ Some t)
       → ((v : ℕ) → Matches (warp_row_of m' v) (l'.current v))
-      → Tallied k l' m'.book → Inv E m' l'
-  steady E m m' l l' I good history size queue phases stamps holds warp_rows tallied =
+      → CountsAgree k l' m'.book → Invariant E m' l'
+  same_phases_keep E m m' l l' I good history size queue phases stamps holds warp_rows counts =
       record {
         good = good;
         history = history;
@@ -173,19 +177,19 @@ module _ (k : Kind) (first : Lines) where
                   old.blocked);
             };
         quiet = λ v p. ap (λ q. request_of q v) queue ∙ I.quiet v (ap is_waiting (sym (phases v)) ∙ p);
-        tallied = tallied;
+        counts = counts;
       }
 
-  -- A warp's own transaction in a changed ledger, and the others'.
+  -- One warp's transaction is replaced in the ledger, and the others stay.
   pub current_mine : (l : Ledger) (w : ℕ) (o : Option Transaction) → (with_current l w o).current w ≡ o
-  current_mine l w o = ap (λ b. cond b o (l.current w)) (eqb_same w)
+  current_mine l w o = ap (λ b. cond b o (l.current w)) (eqb_refl w)
 
   pub current_other :
       (l : Ledger) (w : ℕ) (o : Option Transaction) (v : ℕ) → (v ≡ w → ⊥)
       → (with_current l w o).current v ≡ l.current v
   current_other l w o v n = ap (λ b. cond b o (l.current v)) (ne_eqb v w n)
 
-  -- Whoever holds a line has a transaction that stored to it.
+  -- A warp that holds a line has a transaction that stored to it.
   pub holds_line :
       (l : Ledger) (w line t : ℕ) → hold l w line ≡ Some t
       → (tx : Transaction) × (l.current w ≡ Some tx) × (is_written tx.actions line ≡ true) × (tx.stamp ≡ t)
@@ -204,7 +208,7 @@ module _ (k : Kind) (first : Lines) where
       step None p q = let z : ◌≡◌ {A = ℕ} 0 1 = cc in absurd (omega arith)
       step (Some tx) p q = inner tx p (is_written tx.actions line) refl q
 
-  module _ (keeps : Keeps k) (E : ℕ → ℕ → Type 0) (m : Machine k) (l : Ledger) (I : Inv E m l) (w : ℕ) where
+  module _ (keeps : Keeps k) (E : ℕ → ℕ → Type 0) (m : Machine k) (l : Ledger) (I : Invariant E m l) (w : ℕ) where
     -- A warp with a transaction.
     module _ (tx : Transaction) (mine : l.current w ≡ Some tx) where
       pub running : Running (warp_row_of m w) tx
@@ -219,7 +223,7 @@ module _ (k : Kind) (first : Lines) where
       pub in_machine : w < length m.warp_rows
       in_machine = busy_low m w running.busy
 
-      -- What it holds stays held when it does one thing more.
+      -- Held lines stay held after one more load or store.
       joined_holds :
           (d : Action) → ((n : ℕ) → is_written tx.actions n ≡ true → is_written (d ∷ tx.actions) n ≡ true)
           → (h line t : ℕ) → hold l h line ≡ Some t
@@ -239,35 +243,35 @@ module _ (k : Kind) (first : Lines) where
               ∙ ap Some (ap (λ (u : Transaction). u.stamp) (sym one) ∙ q.3)
           step false p = e
 
-      -- One thing more, done by this warp; its row may log it.
-      abbrev pub with_deed : (Transaction → Action) → Ledger
-      with_deed action = with_current l w (option_map (λ t. with_action t (action t)) (l.current w))
+      -- The ledger after one more load or store by this warp. Its row may log the store.
+      abbrev pub ledger_with_action : (Transaction → Action) → Ledger
+      ledger_with_action action = with_current l w (option_map (λ t. with_action t (action t)) (l.current w))
 
-      pub does :
+      pub action_keeps :
           (m' : Machine k) (action : Transaction → Action) → k.Good m'.book
-          → History k first (with_deed action) m'.lines m'.book
+          → History k first (ledger_with_action action) m'.lines m'.book
           → length m'.warp_rows ≡ length m.warp_rows → m'.queue ≡ m.queue
           → ((v : ℕ) → (warp_row_of m' v).phase ≡ (warp_row_of m v).phase)
           → ((v : ℕ) → (warp_row_of m' v).stamp ≡ (warp_row_of m v).stamp)
           → ((v : ℕ) → (v ≡ w → ⊥) → warp_row_of m' v ≡ warp_row_of m v)
           → ((n : ℕ) → is_written tx.actions n ≡ true → is_written (action tx ∷ tx.actions) n ≡ true)
           → (warp_row_of m' w).log ≡ transaction_stores (action tx ∷ tx.actions)
-          → Tallied k (with_deed action) m'.book
-          → Inv E m' (with_deed action)
-      does m' action good history size queue phases stamps others to log tallied =
-          steady E m m' l (with_deed action) I good history size queue phases
+          → CountsAgree k (ledger_with_action action) m'.book
+          → Invariant E m' (ledger_with_action action)
+      action_keeps m' action good history size queue phases stamps others to log counts =
+          same_phases_keep E m m' l (ledger_with_action action) I good history size queue phases
           stamps
           (λ h line t e.
           subst (λ o. hold (with_current l w (option_map (λ t. with_action t (action t)) o)) h line ≡ Some t) (sym mine)
           (joined_holds (action tx) to h line t e))
-          (λ v. match v (cases_eq v w)) tallied
+          (λ v. match v (cases_eq v w)) counts
         where
           match :
               (v : ℕ) → (v ≡ w) ⊎ (v ≡ w → ⊥)
-              → Matches (warp_row_of m' v) ((with_deed action).current v)
+              → Matches (warp_row_of m' v) ((ledger_with_action action).current v)
           match v (inl e) =
               subst
-              (λ u. Matches (warp_row_of m' u) ((with_deed action).current u))
+              (λ u. Matches (warp_row_of m' u) ((ledger_with_action action).current u))
               (sym e)
               (subst (Matches (warp_row_of m' w))
               (sym (current_mine l w (option_map (λ t. with_action t (action t)) (l.current w))
@@ -279,7 +283,7 @@ module _ (k : Kind) (first : Lines) where
                 in_clock = let a = running.in_clock in let b = stamps w in omega arith;
               }))
           match v (inr n) =
-              subst (λ warp_row. Matches warp_row ((with_deed action).current v))
+              subst (λ warp_row. Matches warp_row ((ledger_with_action action).current v))
               (sym (others v n))
               (subst (Matches (warp_row_of m v))
               (sym (current_other l w (option_map (λ t. with_action t (action t)) (l.current w)) v n))

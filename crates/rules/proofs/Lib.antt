@@ -1,11 +1,11 @@
 mod ListFacts
-mod Replay
-mod Serial
+mod SerialAccount
+mod SerialOrders
 mod History
-mod Closing
-mod BookMoves
+mod Commits
+mod BookCalls
 mod Ledgers
-mod Tallies
+mod StoreCounts
 mod Verdicts
 mod Logs
 mod Invariant

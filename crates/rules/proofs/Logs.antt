@@ -1,5 +1,7 @@
--- Logs, rows and the queue, as lists.
-use Rattle.std.proofs.Common.{◌≡◌, ℕ, ◌<◌, Bool, true, false, cond, not, ◌||◌, eqb, List, [], ◌∷◌, ◌++◌, length, is_some, Some, None, fold, Option, sym, refl, ap, ◌∙◌, subst, ⊎_elim}
+-- Lists in the machine: logs, rows and the queue.
+use Rattle.std.proofs.Common.{◌≡◌, ℕ, ◌<◌, Bool, true, false, cond, not, ◌||◌, eqb, List, [], ◌∷◌}
+use Rattle.std.proofs.Common.{◌++◌, length, is_some, Some, None, fold, Option, sym, refl, ap, ◌∙◌}
+use Rattle.std.proofs.Common.{subst, ⊎_elim}
 use Rattle.std.proofs.lemmas.List.{get_or-set_same, get_or-set_other, get_or_past, map-append}
 use Rattle.std.proofs.lemmas.List.Sums.{fold_push}
 use Rattle.std.proofs.lemmas.Bool.{both_ways, eqb-true, ne_eqb, cases_Bool, cases_lt, or_left}
@@ -8,12 +10,14 @@ use Rattle.rules.specs.declared.state.Phase.TheVariants.{Idle, Open, Waiting, Se
 use Rattle.rules.specs.declared.state.Request.{Request}
 use Rattle.rules.specs.Lists.{has, push_new}
 use Rattle.rules.specs.Logs.{LogEntry, last_stored, entry_lines, logged_lines}
-use Rattle.rules.specs.State.{WarpRow, Machine, idle_row, is_idle, is_waiting, warp_row_of, with_warp_row}
+use Rattle.rules.specs.State.{WarpRow, Machine, idle_row, is_idle, is_waiting, warp_row_of}
+use Rattle.rules.specs.State.{with_warp_row}
 use Rattle.rules.specs.Queue.{request_of, queue_without}
-use Rattle.rules.specs.Transactions.{Action, loaded, stored, last_own_store, is_written, transaction_stores}
-use Rattle.rules.proofs.ListFacts.{eqb_same, has_append}
+use Rattle.rules.specs.Transactions.{Action, loaded, stored, last_own_store, is_written}
+use Rattle.rules.specs.Transactions.{transaction_stores}
+use Rattle.rules.proofs.ListFacts.{eqb_refl, has_append}
 
--- The last value logged is the transaction's own.
+-- The last value that the log has for a line is the one that the transaction last stored.
 pub logged_own : (actions : List Action) (line : ℕ) → last_stored (transaction_stores actions) line ≡ last_own_store actions line
 logged_own [] line = refl
 logged_own (loaded d ∷ actions) line = logged_own actions line
@@ -22,34 +26,34 @@ logged_own (stored s ∷ actions) line =
     ∙ ap (λ o. cond (eqb s.line line) (Some s.value) o) (logged_own actions line)
 
 -- The logged lines are those that the transaction stored to.
-has_push_new : (z : ℕ) (seen : List ℕ) (x : ℕ) → has z (push_new seen x) ≡ (has z seen || eqb x z)
-has_push_new z seen x = step (has x seen) refl
+has_push_new : (z : ℕ) (commits_seen : List ℕ) (x : ℕ) → has z (push_new commits_seen x) ≡ (has z commits_seen || eqb x z)
+has_push_new z commits_seen x = step (has x commits_seen) refl
   where
     or_false : (b : Bool) → (b || false) ≡ b
     or_false true = refl
     or_false false = refl
 
-    step : (b : Bool) → has x seen ≡ b → has z (cond b seen (seen ++ x ∷ [])) ≡ (has z seen || eqb x z)
-    step false e = has_append z seen (x ∷ []) ∙ ap (λ b. has z seen || b) (or_false (eqb x z))
+    step : (b : Bool) → has x commits_seen ≡ b → has z (cond b commits_seen (commits_seen ++ x ∷ [])) ≡ (has z commits_seen || eqb x z)
+    step false e = has_append z commits_seen (x ∷ []) ∙ ap (λ b. has z commits_seen || b) (or_false (eqb x z))
     step true e = ⊎_elim same other (cases_Bool (eqb x z))
       where
-        same : eqb x z ≡ true → has z seen ≡ (has z seen || eqb x z)
+        same : eqb x z ≡ true → has z commits_seen ≡ (has z commits_seen || eqb x z)
         same p =
-            let h : has z seen ≡ true = subst (λ y. has y seen ≡ true) (eqb-true x z p) e in
-            h ∙ sym (or_left (has z seen) (eqb x z) h)
+            let h : has z commits_seen ≡ true = subst (λ y. has y commits_seen ≡ true) (eqb-true x z p) e in
+            h ∙ sym (or_left (has z commits_seen) (eqb x z) h)
 
-        other : eqb x z ≡ false → has z seen ≡ (has z seen || eqb x z)
-        other p = sym (ap (λ b. has z seen || b) p ∙ or_false (has z seen))
+        other : eqb x z ≡ false → has z commits_seen ≡ (has z commits_seen || eqb x z)
+        other p = sym (ap (λ b. has z commits_seen || b) p ∙ or_false (has z commits_seen))
 
-has_distinct_from : (z : ℕ) (xs seen : List ℕ) → has z (fold push_new seen xs) ≡ (has z seen || has z xs)
-has_distinct_from z [] seen = flat (has z seen)
+has_distinct_from : (z : ℕ) (xs commits_seen : List ℕ) → has z (fold push_new commits_seen xs) ≡ (has z commits_seen || has z xs)
+has_distinct_from z [] commits_seen = flat (has z commits_seen)
   where
     flat : (b : Bool) → b ≡ (b || false)
     flat true = refl
     flat false = refl
-has_distinct_from z (x ∷ xs) seen =
-    has_distinct_from z xs (push_new seen x) ∙ ap (λ b. b || has z xs) (has_push_new z seen x)
-    ∙ regroup (has z seen) (eqb x z) (has z xs)
+has_distinct_from z (x ∷ xs) commits_seen =
+    has_distinct_from z xs (push_new commits_seen x) ∙ ap (λ b. b || has z xs) (has_push_new z commits_seen x)
+    ∙ regroup (has z commits_seen) (eqb x z) (has z xs)
   where
     regroup : (a b c : Bool) → ((a || b) || c) ≡ (a || (b || c))
     regroup true b c = refl
@@ -75,7 +79,7 @@ has_logged actions line =
         step false (Some u) = refl
 
 module _ {k : Kind} (m : Machine k) (w : ℕ) where
-  -- A row that is put is there, and the others are as they were.
+  -- A row that is replaced is the new one, and the others do not change.
   pub warp_row_put :
       (warp_row : WarpRow) → w < length m.warp_rows → warp_row_of (with_warp_row m w warp_row) w ≡ warp_row
   warp_row_put warp_row low = get_or-set_same m.warp_rows w warp_row (idle_row 0) low
@@ -100,7 +104,8 @@ waiting_busy Open e = refl
 waiting_busy Waiting e = refl
 waiting_busy (Settled outcome) e = refl
 
--- A request that joins the queue is its warp's, unless the warp has one there already; the others' stay.
+-- A request that joins the queue is its warp's, unless the warp already has one there; the requests
+-- of others stay.
 pub request_push :
     (queue : List Request) (r : Request) (v : ℕ) → (v ≡ r.warp → ⊥)
     → request_of (queue ++ r ∷ []) v ≡ request_of queue v
@@ -110,7 +115,7 @@ request_push (q ∷ queue) r v n = ap (λ o. cond (eqb q.warp v) (Some q) o) (re
 pub request_mine :
     (queue : List Request) (r : Request) → request_of queue r.warp ≡ None
     → request_of (queue ++ r ∷ []) r.warp ≡ Some r
-request_mine [] r e = ap (λ b. cond b (Some r) None) (eqb_same r.warp)
+request_mine [] r e = ap (λ b. cond b (Some r) None) (eqb_refl r.warp)
 request_mine (q ∷ queue) r e = step (eqb q.warp r.warp) e (request_mine queue r)
   where
     step :
@@ -120,7 +125,7 @@ request_mine (q ∷ queue) r e = step (eqb q.warp r.warp) e (request_mine queue 
     step true p rest = cc
     step false p rest = rest p
 
--- A request that leaves leaves the others' where they were.
+-- When a request leaves the queue, the requests of others stay.
 pub request_left :
     (queue : List Request) (w v : ℕ) → (v ≡ w → ⊥) → request_of (queue_without queue w) v ≡ request_of queue v
 request_left [] w v n = refl

@@ -1,4 +1,4 @@
--- Both laws hold of every run of the product's machine.
+-- The laws of accounts, of explanation and of waits hold of every run of the product's machine.
 use Rattle.book.specs.Meaning.{Kind}
 use Rattle.rules.specs.Queue.{product_policy}
 use Rattle.rules.specs.Laws.{ProductLawful}

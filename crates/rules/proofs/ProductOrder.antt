@@ -1,5 +1,6 @@
--- The product's own order of tries covers every request that waits for the line.
-use Rattle.std.proofs.Common.{◌≡◌, ℕ, Bool, true, false, cond, ◌||◌, eqb, List, [], ◌∷◌, map, Some, fold, refl, ap, ◌∙◌}
+-- The product's own order of turns leaves out no request that waits for the line.
+use Rattle.std.proofs.Common.{◌≡◌, ℕ, Bool, true, false, cond, ◌||◌, eqb, List, [], ◌∷◌, map, Some}
+use Rattle.std.proofs.Common.{fold, refl, ap, ◌∙◌}
 use Rattle.std.proofs.lemmas.Bool.{or_left, or_right}
 use Rattle.book.specs.Meaning.{Kind}
 use Rattle.rules.specs.declared.state.Request.{Request}
@@ -7,10 +8,10 @@ use Rattle.rules.specs.Lists.{has}
 use Rattle.rules.specs.State.{WarpRow}
 use Rattle.rules.specs.Queue.{request_of, requests_on, has_smaller_stamp, inserted_by_stamp}
 use Rattle.rules.specs.Laws.{ProductCovers}
-use Rattle.rules.proofs.ListFacts.{eqb_same}
+use Rattle.rules.proofs.ListFacts.{eqb_refl}
 
 module _ (rows : List WarpRow) where
-  -- A warp that is placed stands there, with all others.
+  -- Inserting a warp keeps all other warps and adds this one.
   has_placed : (xs : List ℕ) (w z : ℕ) → has z (inserted_by_stamp rows xs w) ≡ (eqb w z || has z xs)
   has_placed [] w z = refl
   has_placed (v ∷ xs) w z = step (has_smaller_stamp rows w v) (has_placed xs w z)
@@ -46,7 +47,7 @@ module _ (rows : List WarpRow) where
 abbrev warp_of : Request → ℕ
 warp_of q = q.warp
 
--- A request in the queue is among those of its line.
+-- A request in the queue is among those for its line.
 in_line :
     (queue : List Request) (w : ℕ) (r : Request) → request_of queue w ≡ Some r
     → has w (map warp_of (requests_on queue r.line)) ≡ true
@@ -75,7 +76,7 @@ in_line (q ∷ queue) w r e = step (eqb q.warp w) refl e (in_line queue w r)
         (λ b.
         has w
         (map warp_of (cond b (q ∷ requests_on queue r.line) (requests_on queue r.line))))
-        (ap (λ (x : Request). eqb x.line r.line) same ∙ eqb_same r.line)
+        (ap (λ (x : Request). eqb x.line r.line) same ∙ eqb_refl r.line)
         ∙ or_left (eqb q.warp w) (has w rest_of) p
     step false p h rest = later (eqb q.line r.line) (rest h)
 

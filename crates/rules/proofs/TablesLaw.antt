@@ -1,5 +1,7 @@
--- The law of tables: after every run, what the machine's tables tell of warps and lines is what the account says.
-use Rattle.std.proofs.Common.{◌≡◌, ℕ, ◌<◌, Bool, true, false, eqb, [], Some, None, Option, sym, refl, ap, ◌∙◌, subst, inl}
+-- The law of tables: after every run, what the machine's tables say of warps and lines is what the
+-- ledger says.
+use Rattle.std.proofs.Common.{◌≡◌, ℕ, ◌<◌, Bool, true, false, eqb, [], Some, None, Option, sym}
+use Rattle.std.proofs.Common.{refl, ap, ◌∙◌, subst, inl}
 use Rattle.std.proofs.lemmas.Bool.{eqb-true, not-false}
 use Rattle.protocol.specs.Limits.{line_limit}
 use Rattle.memory.specs.Lines.{Lines}
@@ -11,12 +13,12 @@ use Rattle.rules.specs.Transactions.{Transaction}
 use Rattle.rules.specs.Ledger.{Ledger, ledger_of}
 use Rattle.rules.specs.Laws.{IsHolder, TablesAgree, LawOfTables}
 use Rattle.rules.proofs.Ledgers.{hold_in, hold_writes}
-use Rattle.rules.proofs.Invariant.{Running, Matches, Inv, holds_line}
+use Rattle.rules.proofs.Invariant.{Running, Matches, Invariant, holds_line}
 use Rattle.rules.proofs.Calls.{run_keeps, new_keeps}
 
 module _
     (k : Kind) (keeps : Keeps k) (first : Lines) (E : ℕ → ℕ → Type 0) (m : Machine k) (l : Ledger)
-    (I : Inv k first E m l)
+    (I : Invariant k first E m l)
   where
     runs : (w : ℕ) (tx : Transaction) → l.current w ≡ Some tx → Running (warp_row_of m w) tx
     runs w tx e = subst (Matches (warp_row_of m w)) e (I.warp_rows w)
@@ -56,7 +58,7 @@ module _
           its_stamp = λ w tx e. sym (runs w tx e).same_stamp;
           its_log = λ w tx e. (runs w tx e).same_log;
           held_line = owned;
-          held_count = λ line h o. I.tallied h o.0 o.1 line o.2;
+          held_count = λ line h o. I.counts h o.0 o.1 line o.2;
           free_line = free;
           free_count = λ line low none. uncounted line low (free line low none);
         }

@@ -1,6 +1,8 @@
--- Tries keep the invariant of a run, in whatever order they come, and leave no waiting warp behind if the order covers
--- the waiting requests.
-use Rattle.std.proofs.Common.{◌≡◌, ℕ, ◌<◌, Bool, true, false, cond, eqb, ◌⊎◌, List, [], ◌∷◌, ◌++◌, is_some, Some, None, fold, Option, sym, refl, ap, ◌∙◌, subst, inl, inr, ⊎_elim, arith}
+-- Retries keep the invariant of a run, in any order, and no waiting warp stays exempt if the order
+-- leaves out no waiting request.
+use Rattle.std.proofs.Common.{◌≡◌, ℕ, ◌<◌, Bool, true, false, cond, eqb, ◌⊎◌, List, [], ◌∷◌, ◌++◌}
+use Rattle.std.proofs.Common.{is_some, Some, None, fold, Option, sym, refl, ap, ◌∙◌, subst, inl}
+use Rattle.std.proofs.Common.{inr, ⊎_elim, arith}
 use Rattle.std.proofs.lemmas.List.Sums.{fold_push}
 use Rattle.std.proofs.lemmas.Bool.{both_ways, eqb-true, eq-eqb, or_cases}
 use Rattle.std.specs.Option.{option_map}
@@ -13,19 +15,24 @@ use Rattle.rules.specs.declared.state.Access.TheVariants.{Read, Write}
 use Rattle.rules.specs.declared.state.Request.{Request}
 use Rattle.rules.specs.Lists.{has}
 use Rattle.rules.specs.Logs.{log_entry, logged_lines}
-use Rattle.rules.specs.State.{WarpRow, Machine, Settling, idle_row, is_idle, is_waiting, warp_row_of, time_of}
+use Rattle.rules.specs.State.{WarpRow, Machine, SettledRequest, idle_row, is_idle, is_waiting}
+use Rattle.rules.specs.State.{warp_row_of, time_of}
 use Rattle.rules.specs.declared.verdict.Verdict.{Verdict}
-use Rattle.rules.specs.declared.verdict.Verdict.TheVariants.{OwnLine, Gone as VerdictGone, MustWait, GoOn}
+use Rattle.rules.specs.declared.verdict.Verdict.TheVariants.{OwnLine, Gone as VerdictGone, MustWait}
+use Rattle.rules.specs.declared.verdict.Verdict.TheVariants.{GoOn}
 use Rattle.rules.specs.Access.{line_state, retried}
 use Rattle.rules.specs.Queue.{Policy, request_of, access_at, pending_access}
 use Rattle.rules.specs.Serving.{memory_value, served_on_free_line}
-use Rattle.rules.specs.Ending.{AfterTries, after_settling, settling, after_try, after_turn_with, after_turn, after_turns, without_lines, after_giving_up, after_end}
+use Rattle.rules.specs.Ending.{AfterTries, after_settling, settled_request, after_try}
+use Rattle.rules.specs.Ending.{after_turn_with, after_turn, after_turns, without_lines}
+use Rattle.rules.specs.Ending.{after_giving_up, after_end}
 use Rattle.rules.specs.Transactions.{Transaction, loaded, stored, load_action}
-use Rattle.rules.specs.Ledger.{Ledger, with_action, load_found, ledger_after_settling, ledger_after_outcome}
-use Rattle.rules.proofs.Verdicts.{Means, retried_means}
+use Rattle.rules.specs.Ledger.{Ledger, with_action, load_source, ledger_after_settled}
+use Rattle.rules.specs.Ledger.{ledger_after_outcome}
+use Rattle.rules.proofs.Verdicts.{VerdictMeans, retried_verdict_means}
 use Rattle.rules.proofs.Logs.{waiting_busy}
-use Rattle.rules.proofs.Invariant.{Matches, Blocked, Waiter, Inv, exempt, current_mine}
-use Rattle.rules.proofs.OneWarp.{serves_keeps, settles_keeps, stalled}
+use Rattle.rules.proofs.Invariant.{Matches, Blocked, Waiter, Invariant, exempt, current_mine}
+use Rattle.rules.proofs.OneWarp.{serving_keeps, settling_keeps, stalled}
 
 -- A row that is not idle has a transaction.
 pub has_transaction :
@@ -35,7 +42,7 @@ has_transaction warp_row None p e = absurd (both_ways (is_idle warp_row.phase) e
 has_transaction warp_row (Some tx) p e = (tx, refl)
 
 module _ {k : Kind} (m : Machine k) (w line : ℕ) where
-  -- A warp is tried at a line when it waits there.
+  -- A warp has a request to retry at a line if it waits there.
   pub record TriedAt : Type 0 where
     pub waiting : is_waiting (warp_row_of m w).phase ≡ true
     pub request : Request
@@ -73,14 +80,14 @@ module _ {k : Kind} (m : Machine k) (w line : ℕ) where
       omega arith
 
 module _ (k : Kind) (first : Lines) (keeps : Keeps k) (start : Ledger) where
-  -- The account after some requests have come out.
-  abbrev pub told_by : AfterTries k → Ledger
-  told_by st = fold ledger_after_settling start st.settled
+  -- The ledger after some requests are settled.
+  abbrev pub ledger_after_tries : AfterTries k → Ledger
+  ledger_after_tries st = fold ledger_after_settled start st.settled
 
   one_more :
-      (st : AfterTries k) (s : Settling)
-      → fold ledger_after_settling start (st.settled ++ s ∷ []) ≡ ledger_after_settling (told_by st) s
-  one_more st s = fold_push ledger_after_settling start st.settled s
+      (st : AfterTries k) (s : SettledRequest)
+      → fold ledger_after_settled start (st.settled ++ s ∷ []) ≡ ledger_after_settled (ledger_after_tries st) s
+  one_more st s = fold_push ledger_after_settled start st.settled s
 
   -- After a served request its warp still has a transaction.
   served_current :
@@ -88,12 +95,12 @@ module _ (k : Kind) (first : Lines) (keeps : Keeps k) (start : Ledger) where
       → (t : Transaction) × ((ledger_after_outcome l w line access (served_on_free_line m w line access).outcome).current w ≡ Some t)
   unfolding served_on_free_line
   served_current m l w line Read tx mine = (
-    with_action tx (loaded (load_action line (memory_value m line) (load_found l.committed tx line))),
+    with_action tx (loaded (load_action line (memory_value m line) (load_source l.committed tx line))),
     current_mine k first l w
-        (option_map (λ t. with_action t (loaded (load_action line (memory_value m line) (load_found l.committed t line))))
+        (option_map (λ t. with_action t (loaded (load_action line (memory_value m line) (load_source l.committed t line))))
         (l.current w))
         ∙ ap
-        (option_map (λ t. with_action t (loaded (load_action line (memory_value m line) (load_found l.committed t line)))))
+        (option_map (λ t. with_action t (loaded (load_action line (memory_value m line) (load_source l.committed t line)))))
         mine,
   )
   served_current m l w line (Write value) tx mine = (
@@ -102,14 +109,14 @@ module _ (k : Kind) (first : Lines) (keeps : Keeps k) (start : Ledger) where
         ∙ ap (option_map (λ t. with_action t (stored (log_entry line value)))) mine,
   )
 
-  module _ (E E' : ℕ → ℕ → Type 0) (st : AfterTries k) (w line : ℕ) (I : Inv k first E st.machine (told_by st))
+  module _ (E E' : ℕ → ℕ → Type 0) (st : AfterTries k) (w line : ℕ) (I : Invariant k first E st.machine (ledger_after_tries st))
       (drop : (v n : ℕ) → E v n → E' v n ⊎ ((v ≡ w) × (n ≡ line)))
     where
       others : (v n : ℕ) → (v ≡ w → ⊥) → E v n → E' v n
       others v n apart e = ⊎_elim (λ x. x) (λ (p : (v ≡ w) × (n ≡ line)). absurd (apart p.0)) (drop v n e)
 
       module _ (at : TriedAt st.machine w line) where
-        waiter : Waiter k first E st.machine (told_by st) w
+        waiter : Waiter k first E st.machine (ledger_after_tries st) w
         waiter = I.waiters w at.waiting
 
         same_line : waiter.request.line ≡ line
@@ -125,63 +132,63 @@ module _ (k : Kind) (first : Lines) (keeps : Keeps k) (start : Ledger) where
         there : is_some (first line) ≡ true
         there = subst (λ n. is_some (first n) ≡ true) same_line waiter.there
 
-        its : (tx : Transaction) × ((told_by st).current w ≡ Some tx)
+        its : (tx : Transaction) × ((ledger_after_tries st).current w ≡ Some tx)
         its =
-            has_transaction (warp_row_of st.machine w) ((told_by st).current w) (I.warp_rows w)
+            has_transaction (warp_row_of st.machine w) ((ledger_after_tries st).current w) (I.warp_rows w)
             (waiting_busy (warp_row_of st.machine w).phase at.waiting)
 
         tried_keeps :
             (access : Access) (v : Verdict)
-            → Means ⊥ access (line_state k st.machine.book line) (time_of st.machine w) v
-            → Inv k first E' (after_try st w line access v).machine (told_by (after_try st w line access v))
+            → VerdictMeans ⊥ access (line_state k st.machine.book line) (time_of st.machine w) v
+            → Invariant k first E' (after_try st w line access v).machine (ledger_after_tries (after_try st w line access v))
         unfolding after_try
         tried_keeps access OwnLine bad = absurd bad
         tried_keeps access (VerdictGone cause next) u =
-            subst (Inv k first E' (after_settling st.machine w (OutcomeGone cause next)))
-            (sym (one_more st (settling w line access (OutcomeGone cause next)) ∙ lost_joins_nothing access))
-            (settles_keeps k first keeps E st.machine (told_by st) I w its.0 its.1 E' (OutcomeGone cause next) others)
+            subst (Invariant k first E' (after_settling st.machine w (OutcomeGone cause next)))
+            (sym (one_more st (settled_request w line access (OutcomeGone cause next)) ∙ lost_joins_nothing access))
+            (settling_keeps k first keeps E st.machine (ledger_after_tries st) I w its.0 its.1 E' (OutcomeGone cause next) others)
           where
-            lost_joins_nothing : (a : Access) → ledger_after_outcome (told_by st) w line a (OutcomeGone cause next) ≡ told_by st
+            lost_joins_nothing : (a : Access) → ledger_after_outcome (ledger_after_tries st) w line a (OutcomeGone cause next) ≡ ledger_after_tries st
             lost_joins_nothing Read = refl
             lost_joins_nothing (Write value) = refl
         tried_keeps access MustWait stall =
-            exempt k first E E' st.machine (told_by st) I (λ v r p q e. keep v r q (drop v r.line e))
+            exempt k first E E' st.machine (ledger_after_tries st) I (λ v r p q e. keep v r q (drop v r.line e))
           where
             keep :
                 (v : ℕ) (r : Request) → request_of st.machine.queue v ≡ Some r
                 → E' v r.line ⊎ ((v ≡ w) × (r.line ≡ line))
-                → E' v r.line ⊎ Blocked (told_by st) r.line (warp_row_of st.machine v).stamp
+                → E' v r.line ⊎ Blocked (ledger_after_tries st) r.line (warp_row_of st.machine v).stamp
             keep v r q (inl e) = inl e
             keep v r q (inr p) =
                 inr
-                (subst (λ u. Blocked (told_by st) r.line (warp_row_of st.machine u).stamp) (sym p.0)
-                (subst (λ n. Blocked (told_by st) n (warp_row_of st.machine w).stamp) (sym p.1)
-                (stalled k first keeps E st.machine (told_by st) I w its.0 its.1 line low there stall)))
+                (subst (λ u. Blocked (ledger_after_tries st) r.line (warp_row_of st.machine u).stamp) (sym p.0)
+                (subst (λ n. Blocked (ledger_after_tries st) n (warp_row_of st.machine w).stamp) (sym p.1)
+                (stalled k first keeps E st.machine (ledger_after_tries st) I w its.0 its.1 line low there stall)))
         tried_keeps access GoOn go =
             let served =
-            serves_keeps k first keeps E st.machine (told_by st) I w its.0 its.1 line low there access go
+            serving_keeps k first keeps E st.machine (ledger_after_tries st) I w its.0 its.1 line low there access go
             in
-            let its_now = served_current st.machine (told_by st) w line access its.0 its.1 in
+            let its_now = served_current st.machine (ledger_after_tries st) w line access its.0 its.1 in
             subst
-            (Inv k first E'
+            (Invariant k first E'
             (after_settling (served_on_free_line st.machine w line access).machine w (served_on_free_line st.machine w line access).outcome))
-            (sym (one_more st (settling w line access (served_on_free_line st.machine w line access).outcome)))
-            (settles_keeps k first keeps E (served_on_free_line st.machine w line access).machine
-            (ledger_after_outcome (told_by st) w line access (served_on_free_line st.machine w line access).outcome) served w its_now.0
+            (sym (one_more st (settled_request w line access (served_on_free_line st.machine w line access).outcome)))
+            (settling_keeps k first keeps E (served_on_free_line st.machine w line access).machine
+            (ledger_after_outcome (ledger_after_tries st) w line access (served_on_free_line st.machine w line access).outcome) served w its_now.0
             its_now.1 E' (served_on_free_line st.machine w line access).outcome others)
 
       retries_keeps :
           (o : Option Access) → pending_access st.machine w line ≡ o
-          → Inv k first E' (after_turn_with st w line o).machine (told_by (after_turn_with st w line o))
+          → Invariant k first E' (after_turn_with st w line o).machine (ledger_after_tries (after_turn_with st w line o))
       unfolding after_turn_with
       retries_keeps None e =
-          exempt k first E E' st.machine (told_by st) I (λ v r p q x. keep v r p q (drop v r.line x))
+          exempt k first E E' st.machine (ledger_after_tries st) I (λ v r p q x. keep v r p q (drop v r.line x))
         where
           keep :
               (v : ℕ) (r : Request) → is_waiting (warp_row_of st.machine v).phase ≡ true
               → request_of st.machine.queue v ≡ Some r
               → E' v r.line ⊎ ((v ≡ w) × (r.line ≡ line))
-              → E' v r.line ⊎ Blocked (told_by st) r.line (warp_row_of st.machine v).stamp
+              → E' v r.line ⊎ Blocked (ledger_after_tries st) r.line (warp_row_of st.machine v).stamp
           keep v r p q (inl x) = inl x
           keep v r p q (inr x) =
               absurd
@@ -191,24 +198,24 @@ module _ (k : Kind) (first : Lines) (keeps : Keeps k) (start : Ledger) where
       retries_keeps (Some access) e =
           tried_keeps (pending_some st.machine w line access e) access
           (retried access (line_state k st.machine.book line) (time_of st.machine w))
-          (retried_means ⊥ access (line_state k st.machine.book line) (time_of st.machine w))
+          (retried_verdict_means ⊥ access (line_state k st.machine.book line) (time_of st.machine w))
 
-      pub tries_keeps : Inv k first E' (after_turn line st w).machine (told_by (after_turn line st w))
+      pub tries_keeps : Invariant k first E' (after_turn line st w).machine (ledger_after_tries (after_turn line st w))
       tries_keeps = retries_keeps (pending_access st.machine w line) refl
 
   module _ (policy : Policy k) (E₀ : Type 0)
       (covers : (m : Machine k) (w : ℕ) (r : Request) → request_of m.queue w ≡ Some r
       → E₀ ⊎ (has w (policy.turns m r.line) ≡ true))
     where
-      -- Exempt: what is still to be tried at this line, and the lines still to come.
+      -- Exempt: warps still to be retried at this line, and requests at the lines still to come.
       abbrev Still : ℕ → List ℕ → List ℕ → ℕ → ℕ → Type 0
       Still line turns lines v n = (E₀ ⊎ (has n lines ≡ true)) ⊎ ((n ≡ line) × (has v turns ≡ true))
 
       turns_keep :
           (line : ℕ) (lines turns : List ℕ) (st : AfterTries k)
-          → Inv k first (Still line turns lines) st.machine (told_by st)
-          → Inv k first (Still line [] lines) (fold (after_turn line) st turns).machine
-          (told_by (fold (after_turn line) st turns))
+          → Invariant k first (Still line turns lines) st.machine (ledger_after_tries st)
+          → Invariant k first (Still line [] lines) (fold (after_turn line) st turns).machine
+          (ledger_after_tries (fold (after_turn line) st turns))
       turns_keep line lines [] st I = I
       turns_keep line lines (t ∷ turns) st I =
           turns_keep line lines turns (after_turn line st t)
@@ -223,17 +230,17 @@ module _ (k : Kind) (first : Lines) (keeps : Keeps k) (start : Ledger) where
 
       wakes_keeps :
           (line : ℕ) (lines : List ℕ) (st : AfterTries k)
-          → Inv k first (λ v n. E₀ ⊎ (has n (line ∷ lines) ≡ true)) st.machine (told_by st)
-          → Inv k first (λ v n. E₀ ⊎ (has n lines ≡ true)) (after_turns policy st line).machine
-          (told_by (after_turns policy st line))
+          → Invariant k first (λ v n. E₀ ⊎ (has n (line ∷ lines) ≡ true)) st.machine (ledger_after_tries st)
+          → Invariant k first (λ v n. E₀ ⊎ (has n lines ≡ true)) (after_turns policy st line).machine
+          (ledger_after_tries (after_turns policy st line))
       unfolding after_turns
       wakes_keeps line lines st I =
           exempt k first (Still line [] lines) (λ v n. E₀ ⊎ (has n lines ≡ true))
           (fold (after_turn line) st (policy.turns st.machine line)).machine
-          (told_by (fold (after_turn line) st (policy.turns st.machine line)))
+          (ledger_after_tries (fold (after_turn line) st (policy.turns st.machine line)))
           (turns_keep line lines (policy.turns st.machine line) st
           (exempt k first (λ v n. E₀ ⊎ (has n (line ∷ lines) ≡ true))
-          (Still line (policy.turns st.machine line) lines) st.machine (told_by st) I
+          (Still line (policy.turns st.machine line) lines) st.machine (ledger_after_tries st) I
           (λ v r p q e. inl (begin v r q e))))
           (λ v r p q e. inl (finish v r.line e))
         where
@@ -259,19 +266,19 @@ module _ (k : Kind) (first : Lines) (keeps : Keeps k) (start : Ledger) where
 
       lines_keep :
           (lines : List ℕ) (st : AfterTries k)
-          → Inv k first (λ v n. E₀ ⊎ (has n lines ≡ true)) st.machine (told_by st)
-          → Inv k first (λ v n. E₀) (fold (after_turns policy) st lines).machine (told_by (fold (after_turns policy) st lines))
+          → Invariant k first (λ v n. E₀ ⊎ (has n lines ≡ true)) st.machine (ledger_after_tries st)
+          → Invariant k first (λ v n. E₀) (fold (after_turns policy) st lines).machine (ledger_after_tries (fold (after_turns policy) st lines))
       lines_keep [] st I =
-          exempt k first (λ v n. E₀ ⊎ (has n [] ≡ true)) (λ v n. E₀) st.machine (told_by st) I
+          exempt k first (λ v n. E₀ ⊎ (has n [] ≡ true)) (λ v n. E₀) st.machine (ledger_after_tries st) I
           (λ v r p q e. inl (⊎_elim (λ x. x) (λ x. absurd (both_ways false refl x)) e))
       lines_keep (line ∷ lines) st I = lines_keep lines (after_turns policy st line) (wakes_keeps line lines st I)
 
-      -- Lines given up, with every try.
+      -- A warp gives up lines, and the requests that wait for them are retried.
       pub gives_up_keeps :
           (m : Machine k) (w : ℕ) (warp_row : WarpRow) (lines : List ℕ)
-          → Inv k first (λ v n. E₀ ⊎ (has n lines ≡ true)) (without_lines m w warp_row lines) start
-          → Inv k first (λ v n. E₀) (after_giving_up policy m w warp_row lines).machine
-          (told_by (after_giving_up policy m w warp_row lines))
+          → Invariant k first (λ v n. E₀ ⊎ (has n lines ≡ true)) (without_lines m w warp_row lines) start
+          → Invariant k first (λ v n. E₀) (after_giving_up policy m w warp_row lines).machine
+          (ledger_after_tries (after_giving_up policy m w warp_row lines))
       unfolding after_giving_up
       gives_up_keeps m w warp_row lines I =
           lines_keep lines (record { machine = without_lines m w warp_row lines; settled = [] }) I
@@ -279,8 +286,8 @@ module _ (k : Kind) (first : Lines) (keeps : Keeps k) (start : Ledger) where
       -- The end of a transaction.
       pub ends_keeps :
           (m : Machine k) (w stamp : ℕ)
-          → Inv k first (λ v n. E₀ ⊎ (has n (logged_lines (warp_row_of m w).log) ≡ true))
+          → Invariant k first (λ v n. E₀ ⊎ (has n (logged_lines (warp_row_of m w).log) ≡ true))
           (without_lines m w (idle_row stamp) (logged_lines (warp_row_of m w).log)) start
-          → Inv k first (λ v n. E₀) (after_end policy m w stamp).machine (told_by (after_end policy m w stamp))
+          → Invariant k first (λ v n. E₀) (after_end policy m w stamp).machine (ledger_after_tries (after_end policy m w stamp))
       unfolding after_end
       ends_keeps m w stamp I = gives_up_keeps m w (idle_row stamp) (logged_lines (warp_row_of m w).log) I

@@ -1,6 +1,9 @@
--- The law of waits: after every run of a new machine, going from each waiting warp to the holder of its line, and on
--- while the holder waits, stamps strictly fall, and fewer steps than there are warps reach one that does not wait.
-use Rattle.std.proofs.Common.{◌≡◌, ℕ, zero, suc, ◌+◌, ◌<◌, ◌≤◌, Bool, true, false, cond, ltb, ◌⊎◌, [], length, get_or, Some, None, Option, sym, refl, ap, ◌∙◌, subst, inl, inr, ⊎_elim, arith}
+-- The law of waits: after every run of a new machine, from each waiting warp to the holder of its
+-- line, and on while the holder waits, stamps strictly decrease, and fewer steps than there are
+-- warps lead to one that does not wait.
+use Rattle.std.proofs.Common.{◌≡◌, ℕ, zero, suc, ◌+◌, ◌<◌, ◌≤◌, Bool, true, false, cond, ltb, ◌⊎◌}
+use Rattle.std.proofs.Common.{[], length, get_or, Some, None, Option, sym, refl, ap, ◌∙◌, subst}
+use Rattle.std.proofs.Common.{inl, inr, ⊎_elim, arith}
 use Rattle.std.proofs.lemmas.Bool.{both_ways, ltb-true, lt-ltb, le-ltb, cases_eq}
 use Rattle.protocol.specs.declared.fault.Fault.{Fault}
 use Rattle.memory.specs.Lines.{Lines}
@@ -9,13 +12,14 @@ use Rattle.rules.specs.State.{Machine, idle_row, is_waiting, warp_row_of}
 use Rattle.rules.specs.Making.{making_fault, first_warp_rows, new_machine}
 use Rattle.rules.specs.Runs.{run}
 use Rattle.rules.specs.Ledger.{Ledger, ledger_of}
-use Rattle.rules.specs.Laws.{IsHolder, WaitsFor, Leads, free, onward, is_waiting_now, WaitsEnd, LawOfWaits}
+use Rattle.rules.specs.Laws.{IsHolder, WaitsFor, Leads, free, onward, is_waiting_now, WaitsEnd}
+use Rattle.rules.specs.Laws.{LawOfWaits}
 use Rattle.rules.proofs.Ledgers.{hold, hold_in, hold_writes}
 use Rattle.rules.proofs.Logs.{busy_low}
-use Rattle.rules.proofs.Invariant.{Matches, Blocked, Inv, holds_line}
+use Rattle.rules.proofs.Invariant.{Matches, Blocked, Invariant, holds_line}
 use Rattle.rules.proofs.Calls.{run_keeps, new_keeps, refused_stays}
 
--- Counting: what passes a stricter test is counted less often.
+-- Counting: fewer numbers pass a stricter test.
 counted_most : (p : ℕ → Bool) (n : ℕ) → count_below p n ≤ n
 counted_most p zero = omega arith
 counted_most p (suc n) = step (p n) (counted_most p n)
@@ -68,7 +72,7 @@ counted_not_all p n z l e =
     let b = counted_most (λ x. true) n in
     omega arith
 
-module _ (k : Kind) (first : Lines) (m : Machine k) (l : Ledger) (I : Inv k first (λ v n. ⊥) m l) where
+module _ (k : Kind) (first : Lines) (m : Machine k) (l : Ledger) (I : Invariant k first (λ v n. ⊥) m l) where
   -- A waiting warp waits for the one holder of its line.
   next : (w : ℕ) → is_waiting_now m w ≡ true → (h : ℕ) × WaitsFor m l w h
   next w p =

@@ -1,4 +1,5 @@
-use Rattle.rules.proofs.Examples.{two_writers_apart, writer_reader_apart, reader_writer_apart, same_stamp_apart}
+use Rattle.rules.proofs.Examples.{two_writers_apart, writer_reader_apart, reader_writer_apart}
+use Rattle.rules.proofs.Examples.{same_stamp_apart}
 use Rattle.rules.proofs.Examples.{settled_load_found, chain_of_three, stamp_kept, stamp_taken_early}
 use Rattle.rules.proofs.Examples.{lost_update_unexplained}
 use Rattle.rules.proofs.definitions_tell.Goals as goal

@@ -1,5 +1,7 @@
--- The book counts each line's stores as its holder's transaction made them.
-use Rattle.std.proofs.Common.{◌≡◌, ℕ, suc, ◌+◌, ◌<◌, ◌≤◌, Bool, true, false, cond, eqb, ◌⊎◌, List, [], ◌∷◌, ◌++◌, length, is_some, Some, Option, sym, refl, ap, ◌∙◌, subst, inl, inr, arith}
+-- The book counts for each held line the stores of its holder's transaction.
+use Rattle.std.proofs.Common.{◌≡◌, ℕ, suc, ◌+◌, ◌<◌, ◌≤◌, Bool, true, false, cond, eqb, ◌⊎◌, List}
+use Rattle.std.proofs.Common.{[], ◌∷◌, ◌++◌, length, is_some, Some, Option, sym, refl, ap, ◌∙◌}
+use Rattle.std.proofs.Common.{subst, inl, inr, arith}
 use Rattle.std.proofs.lemmas.List.{length_push}
 use Rattle.std.proofs.lemmas.Bool.{both_ways, ne_eqb, cases_eq}
 use Rattle.std.specs.Option.{option_map}
@@ -8,16 +10,18 @@ use Rattle.memory.specs.Lines.{Lines}
 use Rattle.book.specs.Meaning.{Kind}
 use Rattle.rules.specs.Lists.{has}
 use Rattle.rules.specs.Logs.{log_entry}
-use Rattle.rules.specs.Transactions.{Action, loaded, stored, Transaction, last_own_store, is_written, transaction_stores, store_count}
+use Rattle.rules.specs.Transactions.{Action, loaded, stored, Transaction, last_own_store}
+use Rattle.rules.specs.Transactions.{is_written, transaction_stores, store_count}
 use Rattle.rules.specs.Ledger.{Ledger, with_action, with_current, with_begun}
-use Rattle.rules.proofs.ListFacts.{eqb_same}
+use Rattle.rules.proofs.ListFacts.{eqb_refl}
 use Rattle.rules.proofs.Ledgers.{hold_in, hold, hold_writes, History, current_cases}
 
--- What is stored to is counted, and no more often than there are stores.
-pub never_stored : (actions : List Action) (line : ℕ) → is_written actions line ≡ false → store_count actions line ≡ 0
-never_stored [] line h = refl
-never_stored (loaded d ∷ actions) line h = never_stored actions line h
-never_stored (stored s ∷ actions) line h = step (eqb s.line line) h (never_stored actions line)
+-- A line's count is positive if the line is written, 0 if not, and at most the number of all
+-- stores.
+pub no_stores_unless_written : (actions : List Action) (line : ℕ) → is_written actions line ≡ false → store_count actions line ≡ 0
+no_stores_unless_written [] line h = refl
+no_stores_unless_written (loaded d ∷ actions) line h = no_stores_unless_written actions line h
+no_stores_unless_written (stored s ∷ actions) line h = step (eqb s.line line) h (no_stores_unless_written actions line)
   where
     step :
         (b : Bool) → is_some (cond b (Some s.value) (last_own_store actions line)) ≡ false
@@ -25,10 +29,10 @@ never_stored (stored s ∷ actions) line h = step (eqb s.line line) h (never_sto
     step true p rest = absurd (both_ways true p refl)
     step false p rest = let e = rest p in omega arith
 
-pub once_stored : (actions : List Action) (line : ℕ) → is_written actions line ≡ true → 0 < store_count actions line
-once_stored [] line h = absurd (both_ways false refl h)
-once_stored (loaded d ∷ actions) line h = once_stored actions line h
-once_stored (stored s ∷ actions) line h = step (eqb s.line line) h (once_stored actions line)
+pub some_stores_if_written : (actions : List Action) (line : ℕ) → is_written actions line ≡ true → 0 < store_count actions line
+some_stores_if_written [] line h = absurd (both_ways false refl h)
+some_stores_if_written (loaded d ∷ actions) line h = some_stores_if_written actions line h
+some_stores_if_written (stored s ∷ actions) line h = step (eqb s.line line) h (some_stores_if_written actions line)
   where
     step :
         (b : Bool) → is_some (cond b (Some s.value) (last_own_store actions line)) ≡ true
@@ -36,10 +40,10 @@ once_stored (stored s ∷ actions) line h = step (eqb s.line line) h (once_store
     step true p rest = omega arith
     step false p rest = let e = rest p in omega arith
 
-pub stored_at_most : (actions : List Action) (line : ℕ) → store_count actions line ≤ length (transaction_stores actions)
-stored_at_most [] line = omega arith
-stored_at_most (loaded d ∷ actions) line = stored_at_most actions line
-stored_at_most (stored s ∷ actions) line = step (eqb s.line line) (stored_at_most actions line)
+pub store_count_at_most_stores : (actions : List Action) (line : ℕ) → store_count actions line ≤ length (transaction_stores actions)
+store_count_at_most_stores [] line = omega arith
+store_count_at_most_stores (loaded d ∷ actions) line = store_count_at_most_stores actions line
+store_count_at_most_stores (stored s ∷ actions) line = step (eqb s.line line) (store_count_at_most_stores actions line)
   where
     step :
         (b : Bool) → store_count actions line ≤ length (transaction_stores actions)
@@ -49,12 +53,12 @@ stored_at_most (stored s ∷ actions) line = step (eqb s.line line) (stored_at_m
 
 module _ (k : Kind) where
   -- The count of each held line is how often its holder's transaction stored to it.
-  abbrev pub Tallied : Ledger → k.State → Type 0
-  Tallied l s =
+  abbrev pub CountsAgree : Ledger → k.State → Type 0
+  CountsAgree l s =
       (h : ℕ) (tx : Transaction) → l.current h ≡ Some tx → (line : ℕ) → is_written tx.actions line ≡ true
       → k.stores s line ≡ store_count tx.actions line
 
-  module _ (first lines : Lines) (l : Ledger) (s s' : k.State) (H : History k first l lines s) (T : Tallied l s) where
+  module _ (first lines : Lines) (l : Ledger) (s s' : k.State) (H : History k first l lines s) (T : CountsAgree l s) where
     -- A line that a transaction stored to.
     held :
         (h : ℕ) (tx : Transaction) → l.current h ≡ Some tx → (line : ℕ) → is_written tx.actions line ≡ true
@@ -72,14 +76,14 @@ module _ (k : Kind) where
     owned h tx e line w = (H.core.holder h line tx.stamp (held h tx e line w)).owns
 
     -- A load changes no count.
-    pub tally_load :
+    pub counts_after_load :
         ((line : ℕ) → line < line_limit → k.stores s' line ≡ k.stores s line)
         → (w : ℕ) (action : Transaction → Action)
         → ((tx : Transaction) (line : ℕ) → store_count (action tx ∷ tx.actions) line ≡ store_count tx.actions line)
         → ((tx : Transaction) (line : ℕ) → is_written (action tx ∷ tx.actions) line ≡ is_written tx.actions line)
         → (tx : Transaction) → l.current w ≡ Some tx
-        → Tallied (with_current l w (option_map (λ t. with_action t (action t)) (l.current w))) s'
-    tally_load same w action times wrote tx mine h t e line x =
+        → CountsAgree (with_current l w (option_map (λ t. with_action t (action t)) (l.current w))) s'
+    counts_after_load same w action times wrote tx mine h t e line x =
         step (current_cases l w (option_map (λ t. with_action t (action t)) (l.current w)) h t e)
       where
         step :
@@ -97,13 +101,13 @@ module _ (k : Kind) where
         step (inr p) = same line (low h t p.1 line x) ∙ T h t p.1 line x
 
     -- A store adds one to its line's count, which nobody else holds.
-    pub tally_store :
+    pub counts_after_store :
         (w at v : ℕ) (tx : Transaction) → l.current w ≡ Some tx
         → ((line : ℕ) → line < line_limit → (line ≡ at → ⊥) → k.stores s' line ≡ k.stores s line)
         → k.stores s' at ≡ suc (store_count tx.actions at)
         → ((h : ℕ) → k.owner s at ≡ Some h → h ≡ w)
-        → Tallied (with_current l w (option_map (λ t. with_action t (stored (log_entry at v))) (l.current w))) s'
-    tally_store w at v tx mine same one_more only h t e line x =
+        → CountsAgree (with_current l w (option_map (λ t. with_action t (stored (log_entry at v))) (l.current w))) s'
+    counts_after_store w at v tx mine same one_more only h t e line x =
         step (current_cases l w (option_map (λ t. with_action t (stored (log_entry at v))) (l.current w)) h t e)
       where
         others :
@@ -115,7 +119,7 @@ module _ (k : Kind) where
             ∙ ap (λ z. cond (eqb at z) 1 0 + store_count tx.actions z) (sym p)
           where
             grow : (n : ℕ) → suc n ≡ cond (eqb at at) 1 0 + n
-            grow n = let b : ◌≡◌ {A = ℕ} (cond (eqb at at) 1 0) 1 = ap (λ b. cond b 1 0) (eqb_same at) in omega arith
+            grow n = let b : ◌≡◌ {A = ℕ} (cond (eqb at at) 1 0) 1 = ap (λ b. cond b 1 0) (eqb_refl at) in omega arith
         others (inr p) y =
             let z : eqb at line ≡ false = ne_eqb at line (λ q. p (sym q)) in
             let y' : is_written tx.actions line ≡ true =
@@ -142,15 +146,15 @@ module _ (k : Kind) where
             (λ z. p.0 (only h (subst (λ n. k.owner s n ≡ Some h) z (owned h t p.1 line x))))
             ∙ T h t p.1 line x
 
-    -- Letting some lines go leaves the counts of the lines that are still held.
-    pub tally_let_go :
+    -- Releasing some lines leaves the counts of the lines that are still held.
+    pub counts_after_release :
         (w : ℕ) (gone : List ℕ) (o : Option Transaction)
         → ((line : ℕ) → has line gone ≡ true → (t : ℕ) × (hold l w line ≡ Some t))
         → ((line : ℕ) → line < line_limit → has line gone ≡ false → k.stores s' line ≡ k.stores s line)
         → ((tx : Transaction) → o ≡ Some tx → (line : ℕ) → is_written tx.actions line ≡ true
         → k.stores s' line ≡ store_count tx.actions line)
-        → Tallied (with_current l w o) s'
-    tally_let_go w gone o its same left h t e line x = step (current_cases l w o h t e)
+        → CountsAgree (with_current l w o) s'
+    counts_after_release w gone o its same left h t e line x = step (current_cases l w o h t e)
       where
         not_gone : (h ≡ w → ⊥) → l.current h ≡ Some t → (b : Bool) → has line gone ≡ b → b ≡ false
         not_gone n p true y =
@@ -169,8 +173,8 @@ module _ (k : Kind) where
             same line (low h t p.1 line x) (not_gone p.0 p.1 (has line gone) refl) ∙ T h t p.1 line x
 
   -- A new transaction has stored nothing.
-  pub tally_begin : (l : Ledger) (s : k.State) → Tallied l s → (w stamp : ℕ) → Tallied (with_begun l w stamp) s
-  tally_begin l s T w stamp h t e line x =
+  pub counts_after_begin : (l : Ledger) (s : k.State) → CountsAgree l s → (w stamp : ℕ) → CountsAgree (with_begun l w stamp) s
+  counts_after_begin l s T w stamp h t e line x =
       step (current_cases l w (Some (record { stamp = stamp; warp = w; actions = [] })) h t e)
     where
       step :

@@ -1,5 +1,7 @@
--- A transaction commits: what holds between transactions, book and memory still holds with one commit more.
-use Rattle.std.proofs.Common.{◌≡◌, ℕ, suc, ◌<◌, ◌≤◌, Bool, true, false, cond, eqb, ◌⊎◌, List, [], ◌∷◌, ◌++◌, length, is_some, Some, None, filter, Option, sym, refl, ap, ◌∙◌, subst, inl, inr, arith}
+-- What holds between committed transactions, book and memory still holds after one more commit.
+use Rattle.std.proofs.Common.{◌≡◌, ℕ, suc, ◌<◌, ◌≤◌, Bool, true, false, cond, eqb, ◌⊎◌, List, []}
+use Rattle.std.proofs.Common.{◌∷◌, ◌++◌, length, is_some, Some, None, filter, Option, sym, refl, ap}
+use Rattle.std.proofs.Common.{◌∙◌, subst, inl, inr, arith}
 use Rattle.std.proofs.lemmas.Bool.{both_ways, cases_lt, ltb-true}
 use Rattle.std.proofs.lemmas.List.{get_or_append_left, get_or_at, length_push, append-nil}
 use Rattle.std.specs.Option.{option_map}
@@ -8,11 +10,14 @@ use Rattle.memory.specs.Lines.{Lines}
 use Rattle.book.specs.Meaning.{Kind}
 use Rattle.rules.specs.Lists.{has, last_of, numbers_below}
 use Rattle.rules.specs.Steps.{lines_after_stores}
-use Rattle.rules.specs.Transactions.{Found, own, by, at_first, Transaction, no_transaction, last_own_store, is_written}
-use Rattle.rules.specs.Transactions.{transaction_stores, transaction_named, writers, last_found}
-use Rattle.rules.proofs.ListFacts.{kept_append, has_upto, has_of_kept, last_push, last_stands}
-use Rattle.rules.proofs.Replay.{over, written_at, found_value, writer}
-use Rattle.rules.proofs.Serial.{key, key_of, Earlier, seen, stamp_at, key_at, Names, Right, writer_below}
+use Rattle.rules.specs.Transactions.{Source, own_store, committed_store, initial_memory}
+use Rattle.rules.specs.Transactions.{Transaction, no_transaction, last_own_store, is_written}
+use Rattle.rules.specs.Transactions.{transaction_stores, transaction_named, writers}
+use Rattle.rules.specs.Transactions.{committed_source}
+use Rattle.rules.proofs.ListFacts.{filter_append, has_numbers_below, has_of_filter, last_push, last_is_in}
+use Rattle.rules.proofs.SerialAccount.{value_after_stores, written_at, source_value, writer}
+use Rattle.rules.proofs.SerialOrders.{key, key_of, Earlier, commits_seen, stamp_at, key_at, NamesWriter, IsRightSource}
+use Rattle.rules.proofs.SerialOrders.{writer_below}
 use Rattle.rules.proofs.History.{Holding, Holder, Core, ReadNow}
 
 kept_same :
@@ -30,29 +35,29 @@ kept_same t u (x ∷ xs) e =
     there z false h = h
 
 module _ (first : Lines) (txs : List Transaction) (tx : Transaction) where
-  abbrev pub more : List Transaction
-  more = txs ++ tx ∷ []
+  abbrev pub with_commit : List Transaction
+  with_commit = txs ++ tx ∷ []
 
   abbrev n : ℕ
   n = length txs
 
-  length_more : length more ≡ suc n
+  length_more : length with_commit ≡ suc n
   length_more = let e = length_push txs tx in omega arith
 
-  pub named_old : (j : ℕ) → j < n → transaction_named more j ≡ transaction_named txs j
+  pub named_old : (j : ℕ) → j < n → transaction_named with_commit j ≡ transaction_named txs j
   named_old j l = get_or_append_left txs (tx ∷ []) no_transaction j l
 
-  pub named_new : transaction_named more n ≡ tx
+  pub named_new : transaction_named with_commit n ≡ tx
   named_new = get_or_at txs tx [] no_transaction n refl
 
-  -- A writer is an old one or the new one.
+  -- A writer is one of the earlier commits or the new one.
   pub writer_cases :
-      (line j : ℕ) → writer first more line j ≡ true
+      (line j : ℕ) → writer first with_commit line j ≡ true
       → ((j < n) × (writer first txs line j ≡ true)) ⊎ ((j ≡ n) × (is_written tx.actions line ≡ true))
   writer_cases line j w = step (cases_lt j n)
     where
       low : j < suc n
-      low = subst (λ z. j < z) length_more (writer_below first more line j w)
+      low = subst (λ z. j < z) length_more (writer_below first with_commit line j w)
 
       step :
           (j < n) ⊎ (n ≤ j)
@@ -63,59 +68,60 @@ module _ (first : Lines) (txs : List Transaction) (tx : Transaction) where
           inr (
             e,
             ap (λ (t : Transaction). is_written t.actions line) (sym named_new)
-                ∙ ap (λ i. writer first more line i) (sym e) ∙ w,
+                ∙ ap (λ i. writer first with_commit line i) (sym e) ∙ w,
           )
 
-  pub writer_old : (line j : ℕ) → writer first txs line j ≡ true → writer first more line j ≡ true
+  pub writer_old : (line j : ℕ) → writer first txs line j ≡ true → writer first with_commit line j ≡ true
   writer_old line j w =
       ap (λ (t : Transaction). is_written t.actions line) (named_old j (writer_below first txs line j w)) ∙ w
 
-  stamp_old : (j : ℕ) → j < n → stamp_at first more j ≡ stamp_at first txs j
+  stamp_old : (j : ℕ) → j < n → stamp_at first with_commit j ≡ stamp_at first txs j
   stamp_old j l = ap (λ (t : Transaction). t.stamp) (named_old j l)
 
-  writers_more : (line : ℕ) → writers more line ≡ writers txs line ++ cond (is_written tx.actions line) (n ∷ []) []
+  writers_more : (line : ℕ) → writers with_commit line ≡ writers txs line ++ cond (is_written tx.actions line) (n ∷ []) []
   writers_more line =
-      ap (λ z. filter (writer first more line) (numbers_below z)) length_more
-      ∙ kept_append (writer first more line) (numbers_below n) (n ∷ [])
-      ∙ ap (λ l. l ++ filter (writer first more line) (n ∷ [])) old
+      ap (λ z. filter (writer first with_commit line) (numbers_below z)) length_more
+      ∙ filter_append (writer first with_commit line) (numbers_below n) (n ∷ [])
+      ∙ ap (λ l. l ++ filter (writer first with_commit line) (n ∷ [])) old
       ∙ ap (λ b. writers txs line ++ cond b (n ∷ []) [])
       (ap (λ (t : Transaction). is_written t.actions line) named_new)
     where
-      old : filter (writer first more line) (numbers_below n) ≡ writers txs line
+      old : filter (writer first with_commit line) (numbers_below n) ≡ writers txs line
       old =
-          kept_same (writer first more line) (writer first txs line) (numbers_below n)
+          kept_same (writer first with_commit line) (writer first txs line) (numbers_below n)
           (λ z h.
           ap (λ (t : Transaction). is_written t.actions line)
-          (named_old z (ltb-true z n (sym (has_upto z n) ∙ h))))
+          (named_old z (ltb-true z n (sym (has_numbers_below z n) ∙ h))))
 
-  -- What was found is still what it was.
+  -- The value of a source does not change.
   found_old :
-      (line : ℕ) (f : Found) → Names first txs f line
-      → found_value first more line f ≡ found_value first txs line f
-  found_old line own bad = absurd bad
-  found_old line (by j) w =
+      (line : ℕ) (f : Source) → NamesWriter first txs f line
+      → source_value first with_commit line f ≡ source_value first txs line f
+  found_old line own_store bad = absurd bad
+  found_old line (committed_store j) w =
       ap (λ (t : Transaction). last_own_store t.actions line) (named_old j (writer_below first txs line j w))
-  found_old line at_first u = refl
+  found_old line initial_memory u = refl
 
-  pub names_last : (line : ℕ) → Names first txs (last_found (last_of (writers txs line))) line
-  names_last line = step (last_of (writers txs line)) refl
+  pub last_source_names_writer : (line : ℕ) → NamesWriter first txs (committed_source (last_of (writers txs line))) line
+  last_source_names_writer line = step (last_of (writers txs line)) refl
     where
-      step : (o : Option ℕ) → last_of (writers txs line) ≡ o → Names first txs (last_found o) line
+      step : (o : Option ℕ) → last_of (writers txs line) ≡ o → NamesWriter first txs (committed_source o) line
       step None e = tt
-      step (Some j) e = (has_of_kept (writer first txs line) j (numbers_below n) (last_stands (writers txs line) j e)).1
+      step (Some j) e = (has_of_filter (writer first txs line) j (numbers_below n) (last_is_in (writers txs line) j e)).1
 
-  seen_low : (line : ℕ) (f : Found) → Names first txs f line → seen f ≤ n
-  seen_low line own bad = absurd bad
-  seen_low line (by j) w = writer_below first txs line j w
-  seen_low line at_first u = omega arith
+  commits_seen_low : (line : ℕ) (f : Source) → NamesWriter first txs f line → commits_seen f ≤ n
+  commits_seen_low line own_store bad = absurd bad
+  commits_seen_low line (committed_store j) w = writer_below first txs line j w
+  commits_seen_low line initial_memory u = omega arith
 
-  -- A load that found the right store still did, if the new writer is later than it in logical time.
-  pub right_more :
-      (place place' stamp warp line v : ℕ) (f : Found) → Right first txs place stamp warp line v f
+  -- A load that found the right store still has, if the new writer is later than it in logical
+  -- time.
+  pub right_source_with_commit :
+      (place place' stamp warp line v : ℕ) (f : Source) → IsRightSource first txs place stamp warp line v f
       → (place' ≡ place) ⊎ ((place ≡ n) × (place' ≡ suc n))
       → (is_written tx.actions line ≡ true → (n ≡ place' → ⊥) → Earlier (key stamp warp) place' (key_of tx) n)
-      → Right first more place' stamp warp line v f
-  right_more place place' stamp warp line v f r moved newer =
+      → IsRightSource first with_commit place' stamp warp line v f
+  right_source_with_commit place place' stamp warp line v f r moved newer =
       record {
         names = names_now f r.names;
         value = found_old line f r.names ∙ r.value;
@@ -123,25 +129,25 @@ module _ (first : Lines) (txs : List Transaction) (tx : Transaction) where
         after = λ j w l d. after_now j l d (writer_cases line j w);
       }
     where
-      names_now : (g : Found) → Names first txs g line → Names first more g line
-      names_now own bad = bad
-      names_now (by j) w = writer_old line j w
-      names_now at_first u = u
+      names_now : (g : Source) → NamesWriter first txs g line → NamesWriter first with_commit g line
+      names_now own_store bad = bad
+      names_now (committed_store j) w = writer_old line j w
+      names_now initial_memory u = u
 
       before_now :
-          (j : ℕ) → j < seen f
+          (j : ℕ) → j < commits_seen f
           → ((j < n) × (writer first txs line j ≡ true)) ⊎ ((j ≡ n) × (is_written tx.actions line ≡ true))
-          → stamp_at first more j < stamp
+          → stamp_at first with_commit j < stamp
       before_now j l (inl p) = let a = r.before j p.1 l in let b = stamp_old j p.0 in omega arith
-      before_now j l (inr p) = let a = seen_low line f r.names in let e = p.0 in absurd (omega arith)
+      before_now j l (inr p) = let a = commits_seen_low line f r.names in let e = p.0 in absurd (omega arith)
 
       after_now :
-          (j : ℕ) → seen f ≤ j → (j ≡ place' → ⊥)
+          (j : ℕ) → commits_seen f ≤ j → (j ≡ place' → ⊥)
           → ((j < n) × (writer first txs line j ≡ true)) ⊎ ((j ≡ n) × (is_written tx.actions line ≡ true))
-          → Earlier (key stamp warp) place' (key_at first more j) j
+          → Earlier (key stamp warp) place' (key_at first with_commit j) j
       after_now j l d (inl p) =
           let old = r.after j p.1 l (apart moved) in
-          let e : key_at first more j ≡ key_at first txs j = ap key_of (named_old j p.0) in
+          let e : key_at first with_commit j ≡ key_at first txs j = ap key_of (named_old j p.0) in
           let m = moved in
           let low = p.0 in
           (omega (arith, old.0), λ c. later m (old.1 (omega arith)))
@@ -154,7 +160,7 @@ module _ (first : Lines) (txs : List Transaction) (tx : Transaction) where
           later (inl q) c = omega arith
           later (inr q) c = let a = q.0 in let b = p.0 in absurd (omega arith)
       after_now j l d (inr p) =
-          let e : key_at first more j ≡ key_of tx = ap (key_at first more) p.0 ∙ ap key_of named_new in
+          let e : key_at first with_commit j ≡ key_of tx = ap (key_at first with_commit) p.0 ∙ ap key_of named_new in
           let new = newer p.1 (λ q. d (p.0 ∙ q)) in
           let same = p.0 in
           (omega (arith, new.0), λ c. let z = new.1 (omega arith) in omega arith)
@@ -162,19 +168,20 @@ module _ (first : Lines) (txs : List Transaction) (tx : Transaction) where
 module _
     (k : Kind) (first : Lines) (txs : List Transaction) (H : Holding) (lines : Lines) (s : k.State) (tx : Transaction)
   where
-    -- What holds of a line that a transaction is about to commit a store to: nobody holds it any more.
-    pub record Ready (line : ℕ) : Type 0 where
+    -- What holds of a line that a transaction is about to commit a store to. The line is released
+    -- already.
+    pub record ReadyToCommit (line : ℕ) : Type 0 where
       pub line_low : line < line_limit
       pub there : is_some (lines line) ≡ true
       pub passes : tx.stamp < k.write_stamp s line
       pub above : (j : ℕ) → writer first txs line j ≡ true → stamp_at first txs j < tx.stamp
       pub nobody : (h t : ℕ) → H h line ≡ Some t → ⊥
 
-    pub core_more :
+    pub core_with_commit :
         Core k first txs H lines s → tx.warp < 32
-        → ((line : ℕ) → is_written tx.actions line ≡ true → Ready line)
-        → Core k first (more first txs tx) H (lines_after_stores lines (transaction_stores tx.actions)) s
-    core_more c low ready =
+        → ((line : ℕ) → is_written tx.actions line ≡ true → ReadyToCommit line)
+        → Core k first (with_commit first txs tx) H (lines_after_stores lines (transaction_stores tx.actions)) s
+    core_with_commit c low ready =
         record {
           sorted =
               λ line i j l wi wj.
@@ -194,14 +201,14 @@ module _
             ((j < length txs) × (writer first txs line j ≡ true))
             ⊎ ((j ≡ length txs) × (is_written tx.actions line ≡ true))
 
-        stamp_new : (j : ℕ) → j ≡ length txs → stamp_at first (more first txs tx) j ≡ tx.stamp
+        stamp_new : (j : ℕ) → j ≡ length txs → stamp_at first (with_commit first txs tx) j ≡ tx.stamp
         stamp_new j e =
-            ap (stamp_at first (more first txs tx)) e
+            ap (stamp_at first (with_commit first txs tx)) e
             ∙ ap (λ (t : Transaction). t.stamp) (named_new first txs tx)
 
         sorted_now :
             (line i j : ℕ) → i < j → New line i → New line j
-            → stamp_at first (more first txs tx) i < stamp_at first (more first txs tx) j
+            → stamp_at first (with_commit first txs tx) i < stamp_at first (with_commit first txs tx) j
         sorted_now line i j l (inl p) (inl q) =
             let a = c.sorted line i j l p.1 q.1 in
             let b = stamp_old first txs tx i p.0 in
@@ -215,15 +222,15 @@ module _
         sorted_now line i j l (inr p) (inl q) = let a = p.0 in let b = q.0 in absurd (omega arith)
         sorted_now line i j l (inr p) (inr q) = let a = p.0 in let b = q.0 in absurd (omega arith)
 
-        warps_now : (i : ℕ) → i < length (more first txs tx) → (transaction_named (more first txs tx) i).warp < 32
+        warps_now : (i : ℕ) → i < length (with_commit first txs tx) → (transaction_named (with_commit first txs tx) i).warp < 32
         warps_now i l = step (cases_lt i (length txs))
           where
-            step : (i < length txs) ⊎ (length txs ≤ i) → (transaction_named (more first txs tx) i).warp < 32
+            step : (i < length txs) ⊎ (length txs ≤ i) → (transaction_named (with_commit first txs tx) i).warp < 32
             step (inl p) = subst (λ (t : Transaction). t.warp < 32) (sym (named_old first txs tx i p)) (c.warps i p)
             step (inr p) =
                 let e : i ≡ length txs = omega (arith, length_more first txs tx) in
                 subst (λ (t : Transaction). t.warp < 32)
-                (sym (ap (transaction_named (more first txs tx)) e ∙ named_new first txs tx)) low
+                (sym (ap (transaction_named (with_commit first txs tx)) e ∙ named_new first txs tx)) low
 
         low_now : (line i : ℕ) → New line i → line < line_limit
         low_now line i (inl p) = c.line_low line i p.1
@@ -233,13 +240,13 @@ module _
         there_now line i (inl p) = c.there line i p.1
         there_now line i (inr p) = sym (c.same_lines line) ∙ (ready line p.1).there
 
-        passes_now : (line i : ℕ) → New line i → stamp_at first (more first txs tx) i < k.write_stamp s line
+        passes_now : (line i : ℕ) → New line i → stamp_at first (with_commit first txs tx) i < k.write_stamp s line
         passes_now line i (inl p) =
             let a = c.passes line i p.1 in let b = stamp_old first txs tx i p.0 in omega arith
         passes_now line i (inr p) =
             let a = (ready line p.1).passes in let b = stamp_new i p.0 in omega arith
 
-        still : (o p : Option ℕ) → is_some (over o p) ≡ is_some p
+        still : (o p : Option ℕ) → is_some (value_after_stores o p) ≡ is_some p
         still None p = refl
         still (Some v) None = refl
         still (Some v) (Some u) = refl
@@ -255,20 +262,20 @@ module _
         last_now :
             (line : ℕ) (o : Option ℕ) → last_own_store tx.actions line ≡ o
             → lines_after_stores lines (transaction_stores tx.actions) line
-            ≡ found_value first (more first txs tx) line (last_found (last_of (writers (more first txs tx) line)))
+            ≡ source_value first (with_commit first txs tx) line (committed_source (last_of (writers (with_commit first txs tx) line)))
         last_now line None e =
-            written_at lines tx.actions line ∙ ap (λ p. over p (lines line)) e ∙ c.last line
-            ∙ sym (found_old first txs tx line (last_found (last_of (writers txs line))) (names_last first txs tx line))
-            ∙ ap (λ ws. found_value first (more first txs tx) line (last_found (last_of ws)))
+            written_at lines tx.actions line ∙ ap (λ p. value_after_stores p (lines line)) e ∙ c.last line
+            ∙ sym (found_old first txs tx line (committed_source (last_of (writers txs line))) (last_source_names_writer first txs tx line))
+            ∙ ap (λ ws. source_value first (with_commit first txs tx) line (committed_source (last_of ws)))
             (sym
             (writers_more first txs tx line ∙ ap (λ p. writers txs line ++ cond (is_some p) (length txs ∷ []) []) e
             ∙ append-nil (writers txs line)))
         last_now line (Some v) e =
-            written_at lines tx.actions line ∙ ap (λ p. over p (lines line)) e
+            written_at lines tx.actions line ∙ ap (λ p. value_after_stores p (lines line)) e
             ∙ put_over v (lines line) (ready line (ap is_some e)).there
             ∙ sym e
             ∙ ap (λ (t : Transaction). last_own_store t.actions line) (sym (named_new first txs tx))
-            ∙ ap (λ o. found_value first (more first txs tx) line (last_found o))
+            ∙ ap (λ o. source_value first (with_commit first txs tx) line (committed_source o))
             (sym
             (ap last_of
             (writers_more first txs tx line ∙ ap (λ p. writers txs line ++ cond (is_some p) (length txs ∷ []) []) e)
@@ -276,7 +283,7 @@ module _
 
         holder_now :
             (h line t : ℕ) → H h line ≡ Some t
-            → Holder k first (more first txs tx) (lines_after_stores lines (transaction_stores tx.actions)) s h line t
+            → Holder k first (with_commit first txs tx) (lines_after_stores lines (transaction_stores tx.actions)) s h line t
         holder_now h line t e =
             let old = c.holder h line t e in
             record {
@@ -288,21 +295,21 @@ module _
               above = λ j w. above_now j (writer_cases first txs tx line j w);
             }
           where
-            above_now : (j : ℕ) → New line j → stamp_at first (more first txs tx) j < t
+            above_now : (j : ℕ) → New line j → stamp_at first (with_commit first txs tx) j < t
             above_now j (inl p) =
                 let a = (c.holder h line t e).above j p.1 in let b = stamp_old first txs tx j p.0 in omega arith
             above_now j (inr p) = absurd ((ready line p.1).nobody h t e)
 
-    -- A load, likewise.
-    pub read_more :
-        (place place' stamp warp line v : ℕ) (f : Found) → ReadNow k first txs H s place stamp warp line v f
+    -- What holds of a load still holds after the commit.
+    pub read_with_commit :
+        (place place' stamp warp line v : ℕ) (f : Source) → ReadNow k first txs H s place stamp warp line v f
         → (place' ≡ place) ⊎ ((place ≡ length txs) × (place' ≡ suc (length txs)))
         → (is_written tx.actions line ≡ true → (length txs ≡ place' → ⊥)
         → Earlier (key stamp warp) place' (key_of tx) (length txs))
-        → ReadNow k first (more first txs tx) H s place' stamp warp line v f
-    read_more place place' stamp warp line v f r moved newer =
+        → ReadNow k first (with_commit first txs tx) H s place' stamp warp line v f
+    read_with_commit place place' stamp warp line v f r moved newer =
         record {
-          right = right_more first txs tx place place' stamp warp line v f r.right moved newer;
+          right = right_source_with_commit first txs tx place place' stamp warp line v f r.right moved newer;
           line_low = r.line_low;
           marked = r.marked;
           held = r.held;

@@ -1,13 +1,17 @@
--- What a book's promised meanings give the history of a run, call by call of the book.
-use Rattle.std.proofs.Common.{◌≡◌, ℕ, ◌+◌, ◌<◌, ◌≤◌, Bool, true, false, cond, not, ◌&&◌, ◌||◌, eqb, ltb, leb, List, [], ◌∷◌, None, fold, sym, refl, ap, ◌∙◌, subst, ⊎_elim, arith}
-use Rattle.std.proofs.lemmas.Bool.{both_ways, eqb-true, eq-eqb, cases_eq, ltb-true, lt-ltb, le-leb, and_from, or_parts, not_from_false}
+-- What each call of a book changes, from the promises that every book keeps.
+use Rattle.std.proofs.Common.{◌≡◌, ℕ, ◌+◌, ◌<◌, ◌≤◌, Bool, true, false, cond, not, ◌&&◌, ◌||◌, eqb}
+use Rattle.std.proofs.Common.{ltb, leb, List, [], ◌∷◌, None, fold, sym, refl, ap, ◌∙◌, subst}
+use Rattle.std.proofs.Common.{⊎_elim, arith}
+use Rattle.std.proofs.lemmas.Bool.{both_ways, eqb-true, eq-eqb, cases_eq, ltb-true, lt-ltb, le-leb}
+use Rattle.std.proofs.lemmas.Bool.{and_from, or_parts, not_from_false}
 use Rattle.std.proofs.lemmas.Bool.Decides.{nat_tests}
 use Rattle.protocol.specs.Limits.{line_limit, warp_limit, last_stamp}
-use Rattle.book.specs.Meaning.{Kind, Keeps, is_reserved, can_note, can_reserve, can_add, can_release, state_after_note, state_after_reserve, state_after_add}
+use Rattle.book.specs.Meaning.{Kind, Keeps, is_reserved, can_note, can_reserve, can_add}
+use Rattle.book.specs.Meaning.{can_release, state_after_note, state_after_reserve, state_after_add}
 use Rattle.book.specs.Meaning.{state_after_release}
 use Rattle.book.specs.Time.{Time, earlier}
 use Rattle.rules.specs.Lists.{has}
-use Rattle.rules.proofs.History.{mark_rises, Grown, Taken}
+use Rattle.rules.proofs.History.{mark_rises, Grown, Reserved}
 
 earlier_same : (t : Time) → earlier t t ≡ false
 earlier_same t = grind (arith, nat_tests)
@@ -18,7 +22,7 @@ module _ (k : Kind) (keeps : Keeps k) where
       and_from (ltb line line_limit) (leb t last_stamp && ltb w warp_limit) (lt-ltb line line_limit a)
       (and_from (leb t last_stamp) (ltb w warp_limit) (le-leb t last_stamp b) (lt-ltb w warp_limit c))
 
-  -- A noted read.
+  -- After a read is noted.
   pub record Noted (s s' : k.State) (line t w : ℕ) : Type 0 where
     pub good : k.Good s'
     pub grown : Grown k s s'
@@ -44,7 +48,7 @@ module _ (k : Kind) (keeps : Keeps k) where
         counts = λ at l. (n.1.stays at l).same_stores;
       })
 
-  -- A store added to a line.
+  -- After a store is added to the count of a line.
   pub record Added (s s' : k.State) (line : ℕ) : Type 0 where
     pub good : k.Good s'
     pub grown : Grown k s s'
@@ -84,25 +88,25 @@ module _ (k : Kind) (keeps : Keeps k) where
           cc
       step false e = refl
 
-  -- A line taken.
-  pub record Took (s s' : k.State) (line t w : ℕ) : Type 0 where
+  -- After a line is reserved.
+  pub record ReservedByCall (s s' : k.State) (line t w : ℕ) : Type 0 where
     pub good : k.Good s'
-    pub took : Taken k s s' w line t
+    pub took : Reserved k s s' w line t
     pub one_store : k.stores s' line ≡ 1
     pub counts : (at : ℕ) → at < line_limit → (at ≡ line → ⊥) → k.stores s' at ≡ k.stores s at
 
-  pub after_take :
+  pub after_reservation :
       (s : k.State) → k.Good s → (line t w : ℕ) → line < line_limit → t ≤ last_stamp → w < 32
       → k.owner s line ≡ None → k.has_slot s line ≡ true → k.write_stamp s line ≤ t
-      → earlier (t, w) (k.read_mark s line) ≡ false → Took s (state_after_reserve k s line (t, w)) line t w
-  after_take s good line t w a b c none slot below unread =
+      → earlier (t, w) (k.read_mark s line) ≡ false → ReservedByCall s (state_after_reserve k s line (t, w)) line t w
+  after_reservation s good line t w a b c none slot below unread =
       let can : can_reserve k s line (t, w) ≡ true =
       and_from (can_note k s line (t, w)) (not (is_reserved k s line) && k.has_slot s line) (sound line t w s a b c)
       (and_from (not (is_reserved k s line)) (k.has_slot s line)
       (not_from_false (is_reserved k s line) (not_reserved s good line a none)) slot)
       in
       let n = keeps.reserves s good line (t, w) can in
-      subst (λ b. Took s (cond b (k.reserve s line (t, w)) s) line t w) (sym can)
+      subst (λ b. ReservedByCall s (cond b (k.reserve s line (t, w)) s) line t w) (sym can)
       (record {
         good = n.0;
         took =
@@ -122,7 +126,7 @@ module _ (k : Kind) (keeps : Keeps k) where
         counts = λ at l e. (n.1.stays at l e).same_stores;
       })
 
-  -- Lines released.
+  -- After some lines are released.
   pub record Freed (s s' : k.State) (lines : List ℕ) : Type 0 where
     pub good : k.Good s'
     pub stamps : (line : ℕ) → line < line_limit → k.write_stamp s line ≤ k.write_stamp s' line

@@ -1,20 +1,31 @@
--- Lists only: what four facts about committed transactions say of every order in which they run alone.
-use Rattle.std.proofs.Common.{◌≡◌, ℕ, suc, ◌+◌, ◌*◌, ◌<◌, ◌≤◌, Bool, true, false, cond, ◌&&◌, ◌||◌, eqb, ltb, ◌⊎◌, List, [], ◌∷◌, ◌++◌, length, is_some, Some, None, filter, Option, sym, refl, ap, ◌∙◌, subst, inl, inr, ⊎_elim, arith}
-use Rattle.std.proofs.lemmas.Bool.{both_ways, eq-eqb, ne_eqb, cases_Bool, cases_lt, cases_order, lt-ltb, or_left, or_right, or_cases}
+-- From four facts about committed transactions: executed alone in an order they give the account of
+-- the run exactly if the order is that of logical time wherever they conflict. This is about lists
+-- only; the machine comes in with the facts.
+use Rattle.std.proofs.Common.{◌≡◌, ℕ, suc, ◌+◌, ◌*◌, ◌<◌, ◌≤◌, Bool, true, false, cond, ◌&&◌, ◌||◌}
+use Rattle.std.proofs.Common.{eqb, ltb, ◌⊎◌, List, [], ◌∷◌, ◌++◌, length, is_some, Some, None}
+use Rattle.std.proofs.Common.{filter, Option, sym, refl, ap, ◌∙◌, subst, inl, inr, ⊎_elim, arith}
+use Rattle.std.proofs.lemmas.Bool.{both_ways, eq-eqb, ne_eqb, cases_Bool, cases_lt, cases_order}
+use Rattle.std.proofs.lemmas.Bool.{lt-ltb, or_left, or_right, or_cases}
 use Rattle.std.proofs.lemmas.Bool.Decides.{nat_tests}
 use Rattle.std.proofs.lemmas.List.{get_or_past}
 use Rattle.memory.specs.Lines.{Lines}
 use Rattle.rules.specs.Lists.{has, last_of, numbers_below, occurrences, is_before}
-use Rattle.rules.specs.Transactions.{Found, own, by, at_first, Transaction, no_transaction, last_own_store, is_written}
-use Rattle.rules.specs.Transactions.{is_read, transaction_named, writers, last_found}
-use Rattle.rules.specs.Account.{Account, load_results, load_results_alone, serial_account, account_of, EachOnce, EqualAccounts}
+use Rattle.rules.specs.Transactions.{Source, own_store, committed_store, initial_memory}
+use Rattle.rules.specs.Transactions.{Transaction, no_transaction, last_own_store, is_written}
+use Rattle.rules.specs.Transactions.{is_read, transaction_named, writers, committed_source}
+use Rattle.rules.specs.Account.{Account, load_results, load_results_alone, serial_account}
+use Rattle.rules.specs.Account.{account_of, EachOnce, EqualAccounts}
 use Rattle.rules.specs.LogicalTime.{is_earlier, IsInLogicalOrder}
-use Rattle.rules.proofs.ListFacts.{has_append, has_kept, kept_has, kept_append, has_of_kept, has_upto, has_count, Once}
-use Rattle.rules.proofs.ListFacts.{once_apart, split_at, front_before, before_at, before_in_front, Rising, rising_left}
-use Rattle.rules.proofs.ListFacts.{rising_apart, kept_upto_rises, rising_same, rises_from_before, before_from_rises}
-use Rattle.rules.proofs.ListFacts.{last_none, last_stands, last_some, last_tops, last_rising}
-use Rattle.rules.proofs.Replay.{found_value, writer, writers_alone, values_alone, loads_alone, EachLoad, gets_the_same}
-use Rattle.rules.proofs.Replay.{finds_the_same, found_elsewhere, each_read}
+use Rattle.rules.proofs.ListFacts.{has_append, has_filter, filter_has, filter_append, has_of_filter}
+use Rattle.rules.proofs.ListFacts.{has_numbers_below, has_count, Once}
+use Rattle.rules.proofs.ListFacts.{once_apart, split_at, front_before, before_at, before_in_front}
+use Rattle.rules.proofs.ListFacts.{Rising, rising_left}
+use Rattle.rules.proofs.ListFacts.{rising_apart, filtered_numbers_below_rise, rising_same, rising_from_before}
+use Rattle.rules.proofs.ListFacts.{before_from_rising}
+use Rattle.rules.proofs.ListFacts.{last_none, last_is_in, last_some, last_is_greatest, last_rising}
+use Rattle.rules.proofs.SerialAccount.{source_value, writer, writers_alone, values_alone, loads_alone}
+use Rattle.rules.proofs.SerialAccount.{EachLoad, loads_get_the_same}
+use Rattle.rules.proofs.SerialAccount.{loads_find_the_same, read_source, each_read}
 
 -- A stamp and a warp below 32 as one number, in the order of logical time.
 abbrev pub key : ℕ → ℕ → ℕ
@@ -23,7 +34,7 @@ key stamp warp = 32 * stamp + warp
 abbrev pub key_of : Transaction → ℕ
 key_of tx = key tx.stamp tx.warp
 
--- Earlier in logical time, with the place of the commit.
+-- Earlier in logical time: by the number, then by the place of the commit.
 abbrev pub Earlier : ℕ → ℕ → ℕ → ℕ → Type 0
 Earlier k place l place' = (k ≤ l) × (l ≤ k → place < place')
 
@@ -38,41 +49,42 @@ numbers_time :
     → ((ltb s t || (eqb s t && ltb w v)) || (eqb s t && (eqb w v && ltb a b))) ≡ true
 numbers_time s w a t v b hw hv h = grind (arith, nat_tests)
 
--- Clashes, test by test.
-clash_left :
+-- Two transactions conflict if one writes the line and the other uses it.
+conflict_of_left_writer :
     (wa ra wb rb : Bool) → wa ≡ true → (wb || rb) ≡ true → ((wa || ra) && ((wb || rb) && (wa || wb))) ≡ true
-clash_left true ra true rb p q = refl
-clash_left true ra false true p q = refl
-clash_left true ra false false p q = q
-clash_left false ra wb rb p q = absurd (both_ways false refl p)
+conflict_of_left_writer true ra true rb p q = refl
+conflict_of_left_writer true ra false true p q = refl
+conflict_of_left_writer true ra false false p q = q
+conflict_of_left_writer false ra wb rb p q = absurd (both_ways false refl p)
 
-clash_right :
+conflict_of_right_writer :
     (wa ra wb rb : Bool) → (wa || ra) ≡ true → wb ≡ true → ((wa || ra) && ((wb || rb) && (wa || wb))) ≡ true
-clash_right true ra true rb p q = refl
-clash_right false true true rb p q = refl
-clash_right false false true rb p q = p
-clash_right wa ra false rb p q = absurd (both_ways false refl q)
+conflict_of_right_writer true ra true rb p q = refl
+conflict_of_right_writer false true true rb p q = refl
+conflict_of_right_writer false false true rb p q = p
+conflict_of_right_writer wa ra false rb p q = absurd (both_ways false refl q)
 
--- A clash is of two writers, of a writer and a reader that never writes, or of such a reader and a writer.
-data Clashing : Bool → Bool → Bool → Bool → Type 0 where
-  two_writers : {wa ra wb rb : Bool} → wa ≡ true → wb ≡ true → Clashing wa ra wb rb
-  then_reader : {wa ra wb rb : Bool} → wa ≡ true → wb ≡ false → rb ≡ true → Clashing wa ra wb rb
-  reader_then : {wa ra wb rb : Bool} → wa ≡ false → ra ≡ true → wb ≡ true → Clashing wa ra wb rb
+-- A conflict is one of two writers, of a writer and a reader that never writes, or of such a reader
+-- and a writer.
+data ConflictKind : Bool → Bool → Bool → Bool → Type 0 where
+  two_writers : {wa ra wb rb : Bool} → wa ≡ true → wb ≡ true → ConflictKind wa ra wb rb
+  writer_and_reader : {wa ra wb rb : Bool} → wa ≡ true → wb ≡ false → rb ≡ true → ConflictKind wa ra wb rb
+  reader_and_writer : {wa ra wb rb : Bool} → wa ≡ false → ra ≡ true → wb ≡ true → ConflictKind wa ra wb rb
 
-clashing : (wa ra wb rb : Bool) → ((wa || ra) && ((wb || rb) && (wa || wb))) ≡ true → Clashing wa ra wb rb
-clashing true ra true rb h = two_writers refl refl
-clashing true ra false true h = then_reader refl refl refl
-clashing true ra false false h = absurd (both_ways false refl h)
-clashing false true true rb h = reader_then refl refl refl
-clashing false true false true h = absurd (both_ways false refl h)
-clashing false true false false h = absurd (both_ways false refl h)
-clashing false false wb rb h = absurd (both_ways false refl h)
+conflict_kind : (wa ra wb rb : Bool) → ((wa || ra) && ((wb || rb) && (wa || wb))) ≡ true → ConflictKind wa ra wb rb
+conflict_kind true ra true rb h = two_writers refl refl
+conflict_kind true ra false true h = writer_and_reader refl refl refl
+conflict_kind true ra false false h = absurd (both_ways false refl h)
+conflict_kind false true true rb h = reader_and_writer refl refl refl
+conflict_kind false true false true h = absurd (both_ways false refl h)
+conflict_kind false true false false h = absurd (both_ways false refl h)
+conflict_kind false false wb rb h = absurd (both_ways false refl h)
 
--- How many commits a find has seen.
-abbrev pub seen : Found → ℕ
-seen own = 0
-seen (by name) = suc name
-seen at_first = 0
+-- How many commits there were up to the store that a load found.
+abbrev pub commits_seen : Source → ℕ
+commits_seen own_store = 0
+commits_seen (committed_store name) = suc name
+commits_seen initial_memory = 0
 
 module _ (first : Lines) (txs : List Transaction) where
   abbrev pub stamp_at : ℕ → ℕ
@@ -81,31 +93,33 @@ module _ (first : Lines) (txs : List Transaction) where
   abbrev pub key_at : ℕ → ℕ
   key_at name = key_of (transaction_named txs name)
 
-  -- A find names a committed writer of the line, or the first memory.
-  abbrev pub Names : Found → ℕ → Type 0
-  Names own line = ⊥
-  Names (by name) line = writer first txs line name ≡ true
-  Names at_first line = Unit {0}
+  -- The source is a committed writer of the line or the initial memory.
+  abbrev pub NamesWriter : Source → ℕ → Type 0
+  NamesWriter own_store line = ⊥
+  NamesWriter (committed_store name) line = writer first txs line name ≡ true
+  NamesWriter initial_memory line = Unit {0}
 
-  -- A load by a transaction at a place, a stamp and a warp found the right store: the writers up to the one found have
-  -- smaller stamps, and every other writer but itself is later in logical time.
-  pub record Right (place stamp warp line v : ℕ) (f : Found) : Type 0 where
-    pub names : Names f line
-    pub value : found_value first txs line f ≡ Some v
-    pub before : (j : ℕ) → writer first txs line j ≡ true → j < seen f → stamp_at j < stamp
+  -- A load by a transaction with a place, a stamp and a warp found the right store: the writers up
+  -- to the one found have smaller stamps, and every other writer, except the transaction itself, is
+  -- later in logical time.
+  pub record IsRightSource (place stamp warp line v : ℕ) (f : Source) : Type 0 where
+    pub names : NamesWriter f line
+    pub value : source_value first txs line f ≡ Some v
+    pub before : (j : ℕ) → writer first txs line j ≡ true → j < commits_seen f → stamp_at j < stamp
     pub after :
-        (j : ℕ) → writer first txs line j ≡ true → seen f ≤ j → (j ≡ place → ⊥)
+        (j : ℕ) → writer first txs line j ≡ true → commits_seen f ≤ j → (j ≡ place → ⊥)
         → Earlier (key stamp warp) place (key_at j) j
 
--- The four facts, and that warps and written lines are the machine's.
+-- The four facts: writers of a line commit in the order of their stamps; loads found the right
+-- stores; the memory holds the last writers' values; and warps and written lines are the machine's.
 pub record Serial (first : Lines) (txs : List Transaction) (memory : Lines) : Type 0 where
   pub sorted :
       (line i j : ℕ) → i < j → writer first txs line i ≡ true → writer first txs line j ≡ true
       → (transaction_named txs i).stamp < (transaction_named txs j).stamp
   pub loads :
       (i : ℕ) → i < length txs
-      → EachLoad (Right first txs i (transaction_named txs i).stamp (transaction_named txs i).warp) (transaction_named txs i).actions
-  pub last : (line : ℕ) → memory line ≡ found_value first txs line (last_found (last_of (writers txs line)))
+      → EachLoad (IsRightSource first txs i (transaction_named txs i).stamp (transaction_named txs i).warp) (transaction_named txs i).actions
+  pub last : (line : ℕ) → memory line ≡ source_value first txs line (committed_source (last_of (writers txs line)))
   pub warps : (i : ℕ) → i < length txs → (transaction_named txs i).warp < 32
   pub there : (line i : ℕ) → writer first txs line i ≡ true → is_some (first line) ≡ true
 
@@ -169,17 +183,17 @@ module _ (first : Lines) (txs : List Transaction) (memory : Lines) (S : Serial f
         step true e = omega arith
         step false e = omega arith
 
-    -- Writers of a line, run in the order.
-    turned : (line : ℕ) (p : List ℕ) → (serial_account first txs p).line_writers line ≡ filter (wr line) p
-    turned line p = writers_alone first txs line p start
+    -- The writers and the value of a line after some transactions of the order.
+    serial_writers : (line : ℕ) (p : List ℕ) → (serial_account first txs p).line_writers line ≡ filter (wr line) p
+    serial_writers line p = writers_alone first txs line p start
 
-    valued :
+    serial_values :
         (line : ℕ) (p : List ℕ)
         → (serial_account first txs p).last_values line
-        ≡ found_value first txs line (last_found (last_of (filter (wr line) p)))
-    valued line p = values_alone first txs line p start None refl (λ i h. S.there line i h)
+        ≡ source_value first txs line (committed_source (last_of (filter (wr line) p)))
+    serial_values line p = values_alone first txs line p start None refl (λ i h. S.there line i h)
 
-    -- In every split of the order at a name, that name stands in neither part.
+    -- If the order is split at a name, that name is in neither part.
     not_front : (i : ℕ) (p q : List ℕ) → order ≡ p ++ i ∷ q → has i p ≡ false
     not_front i p q e =
         ⊎_elim
@@ -207,11 +221,11 @@ module _ (first : Lines) (txs : List Transaction) (memory : Lines) (S : Serial f
     module _ (logical : IsInLogicalOrder txs order) where
       writers_rise : (line : ℕ) → Rising (filter (wr line) order)
       writers_rise line =
-          rises_from_before (wr line) order once
+          rising_from_before (wr line) order once
           (λ a b ta tb ha hb l.
           logical a b (below line a ta) (below line b tb) (
             line,
-            clash_left (wr line a) (is_read (transaction_named txs a).actions line) (wr line b)
+            conflict_of_left_writer (wr line a) (is_read (transaction_named txs a).actions line) (wr line b)
                 (is_read (transaction_named txs b).actions line) ta
                 (or_left (wr line b) (is_read (transaction_named txs b).actions line) tb),
           )
@@ -221,34 +235,34 @@ module _ (first : Lines) (txs : List Transaction) (memory : Lines) (S : Serial f
       writers_same : (line : ℕ) → filter (wr line) order ≡ writers txs line
       writers_same line =
           rising_same (filter (wr line) order) (writers txs line) (writers_rise line)
-          (kept_upto_rises (wr line) n)
+          (filtered_numbers_below_rise (wr line) n)
           (λ z.
-          has_kept (wr line) z order ∙ ap (λ b. b && wr line z) (in_order z ∙ sym (has_upto z n))
-          ∙ sym (has_kept (wr line) z (numbers_below n)))
+          has_filter (wr line) z order ∙ ap (λ b. b && wr line z) (in_order z ∙ sym (has_numbers_below z n))
+          ∙ sym (has_filter (wr line) z (numbers_below n)))
 
-      -- What stands before a reader are just the writers that its find has seen.
-      module _ (i : ℕ) (i_low : i < n) (p q : List ℕ) (cut : order ≡ p ++ i ∷ q) (line v : ℕ) (f : Found)
-          (right : Right first txs i (transaction_named txs i).stamp (transaction_named txs i).warp line v f)
+      -- The writers before a reader in the order are just those up to the store that it found.
+      module _ (i : ℕ) (i_low : i < n) (p q : List ℕ) (cut : order ≡ p ++ i ∷ q) (line v : ℕ) (f : Source)
+          (right : IsRightSource first txs i (transaction_named txs i).stamp (transaction_named txs i).warp line v f)
           (reader : is_read (transaction_named txs i).actions line ≡ true)
         where
-          front_seen : (j : ℕ) → has j (filter (wr line) p) ≡ true → j < seen f
-          front_seen j h = ⊎_elim (λ l. l) late (cases_lt j (seen f))
+          front_seen : (j : ℕ) → has j (filter (wr line) p) ≡ true → j < commits_seen f
+          front_seen j h = ⊎_elim (λ l. l) late (cases_lt j (commits_seen f))
             where
               j_front : has j p ≡ true
-              j_front = (has_of_kept (wr line) j p h).0
+              j_front = (has_of_filter (wr line) j p h).0
 
               j_writes : wr line j ≡ true
-              j_writes = (has_of_kept (wr line) j p h).1
+              j_writes = (has_of_filter (wr line) j p h).1
 
               other : j ≡ i → ⊥
               other e = both_ways (has i p) (not_front i p q cut) (subst (λ z. has z p ≡ true) e j_front)
 
-              late : seen f ≤ j → j < seen f
+              late : commits_seen f ≤ j → j < commits_seen f
               late l =
                   let first_i : is_before order i j ≡ true =
                   logical i j i_low (below line j j_writes) (
                     line,
-                    clash_right (wr line i) (is_read (transaction_named txs i).actions line) (wr line j)
+                    conflict_of_right_writer (wr line i) (is_read (transaction_named txs i).actions line) (wr line j)
                         (is_read (transaction_named txs j).actions line)
                         (or_right (wr line i) (is_read (transaction_named txs i).actions line) reader) j_writes,
                   )
@@ -262,14 +276,14 @@ module _ (first : Lines) (txs : List Transaction) (memory : Lines) (S : Serial f
                   (once_apart j p (i ∷ q) (subst Once cut once) j_front
                   (or_right (eqb i j) (has j q) in_back))
 
-          seen_front : (j : ℕ) → wr line j ≡ true → j < seen f → has j (filter (wr line) p) ≡ true
+          seen_front : (j : ℕ) → wr line j ≡ true → j < commits_seen f → has j (filter (wr line) p) ≡ true
           seen_front j t l =
-              kept_has (wr line) j p
+              filter_has (wr line) j p
               (before_in_front p q j i (not_front i p q cut) (not_back i p q cut)
               (subst (λ o. is_before o j i ≡ true) cut
               (logical j i (below line j t) i_low (
                 line,
-                clash_left (wr line j) (is_read (transaction_named txs j).actions line) (wr line i)
+                conflict_of_left_writer (wr line j) (is_read (transaction_named txs j).actions line) (wr line i)
                     (is_read (transaction_named txs i).actions line) t
                     (or_right (wr line i) (is_read (transaction_named txs i).actions line) reader),
               )
@@ -280,47 +294,47 @@ module _ (first : Lines) (txs : List Transaction) (memory : Lines) (S : Serial f
           front_rises : Rising (filter (wr line) p)
           front_rises =
               rising_left (filter (wr line) p) (filter (wr line) (i ∷ q))
-              (subst Rising (ap (filter (wr line)) cut ∙ kept_append (wr line) p (i ∷ q)) (writers_rise line))
+              (subst Rising (ap (filter (wr line)) cut ∙ filter_append (wr line) p (i ∷ q)) (writers_rise line))
 
-          finds : last_found (last_of (filter (wr line) p)) ≡ f
+          finds : committed_source (last_of (filter (wr line) p)) ≡ f
           finds = step f right.names front_seen seen_front
             where
               step :
-                  (g : Found) → Names first txs g line
-                  → ((j : ℕ) → has j (filter (wr line) p) ≡ true → j < seen g)
-                  → ((j : ℕ) → wr line j ≡ true → j < seen g → has j (filter (wr line) p) ≡ true)
-                  → last_found (last_of (filter (wr line) p)) ≡ g
-              step own bad up down = absurd bad
-              step (by j) t up down =
-                  ap last_found
+                  (g : Source) → NamesWriter first txs g line
+                  → ((j : ℕ) → has j (filter (wr line) p) ≡ true → j < commits_seen g)
+                  → ((j : ℕ) → wr line j ≡ true → j < commits_seen g → has j (filter (wr line) p) ≡ true)
+                  → committed_source (last_of (filter (wr line) p)) ≡ g
+              step own_store bad up down = absurd bad
+              step (committed_store j) t up down =
+                  ap committed_source
                   (last_rising (filter (wr line) p) j front_rises (down j t (omega arith))
                   (λ y h. let l = up y h in omega arith))
-              step at_first t up down =
-                  ap last_found
+              step initial_memory t up down =
+                  ap committed_source
                   (last_none (filter (wr line) p)
                   (λ y.
                   ⊎_elim (λ h. let l = up y h in absurd (omega arith)) (λ h. h)
                   (cases_Bool (has y (filter (wr line) p)))))
 
           gets : ((serial_account first txs p).last_values line ≡ Some v)
-              × (last_found (last_of ((serial_account first txs p).line_writers line)) ≡ f)
+              × (committed_source (last_of ((serial_account first txs p).line_writers line)) ≡ f)
           gets = (
-            valued line p ∙ ap (found_value first txs line) finds ∙ right.value,
-            ap (λ l. last_found (last_of l)) (turned line p) ∙ finds,
+            serial_values line p ∙ ap (source_value first txs line) finds ∙ right.value,
+            ap (λ l. committed_source (last_of l)) (serial_writers line p) ∙ finds,
           )
 
       equal_loads : (i : ℕ) → i < n → load_results (transaction_named txs i).actions ≡ (serial_account first txs order).loads i
       equal_loads i l =
           let s = split_at i order (stands i l) in
           let actions = (transaction_named txs i).actions in
-          let P : ℕ → ℕ → Found → Type 0 =
+          let P : ℕ → ℕ → Source → Type 0 =
           λ line v f.
-          Right first txs i (transaction_named txs i).stamp (transaction_named txs i).warp line v f
+          IsRightSource first txs i (transaction_named txs i).stamp (transaction_named txs i).warp line v f
           × (is_read actions line ≡ true)
           in
-          gets_the_same P (serial_account first txs s.front)
+          loads_get_the_same P (serial_account first txs s.front)
           (λ line v f r. gets i l s.front s.back s.whole line v f r.0 r.1) actions
-          (each_read (Right first txs i (transaction_named txs i).stamp (transaction_named txs i).warp)
+          (each_read (IsRightSource first txs i (transaction_named txs i).stamp (transaction_named txs i).warp)
           (λ line. is_read actions line ≡ true) actions (λ line r. r) (S.loads i l))
           ∙ sym (loads_alone first txs i s.front s.back start (not_back i s.front s.back s.whole))
           ∙ ap (λ o. (serial_account first txs o).loads i) (sym s.whole)
@@ -332,39 +346,40 @@ module _ (first : Lines) (txs : List Transaction) (memory : Lines) (S : Serial f
             same_values =
                 λ line.
                 S.last line
-                ∙ ap (λ ws. found_value first txs line (last_found (last_of ws))) (sym (writers_same line))
-                ∙ sym (valued line order);
-            same_writers = λ line. sym (writers_same line) ∙ sym (turned line order);
+                ∙ ap (λ ws. source_value first txs line (committed_source (last_of ws))) (sym (writers_same line))
+                ∙ sym (serial_values line order);
+            same_writers = λ line. sym (writers_same line) ∙ sym (serial_writers line order);
           }
 
     -- From equal accounts to logical order.
     module _ (equal_accounts : EqualAccounts n (account_of txs memory) (serial_account first txs order)) where
       same_turns : (line : ℕ) → filter (wr line) order ≡ writers txs line
-      same_turns line = sym (turned line order) ∙ sym (equal_accounts.same_writers line)
+      same_turns line = sym (serial_writers line order) ∙ sym (equal_accounts.same_writers line)
 
       turns_rise : (line : ℕ) → Rising (filter (wr line) order)
-      turns_rise line = subst Rising (sym (same_turns line)) (kept_upto_rises (wr line) n)
+      turns_rise line = subst Rising (sym (same_turns line)) (filtered_numbers_below_rise (wr line) n)
 
-      -- Of a transaction that loaded a line and never stored to it: what it found, alone and in the run.
+      -- A transaction that loaded a line and never stored to it found the same source alone and in
+      -- the run.
       finding :
           (i line : ℕ) → i < n → (p q : List ℕ) → order ≡ p ++ i ∷ q
           → is_read (transaction_named txs i).actions line ≡ true → wr line i ≡ false
-          → (v : ℕ) × (f : Found) × (Right first txs i (transaction_named txs i).stamp (transaction_named txs i).warp line v f
-          × (f ≡ last_found (last_of (filter (wr line) p))))
+          → (v : ℕ) × (f : Source) × (IsRightSource first txs i (transaction_named txs i).stamp (transaction_named txs i).warp line v f
+          × (f ≡ committed_source (last_of (filter (wr line) p))))
       finding i line l p q cut r t =
           let actions = (transaction_named txs i).actions in
-          let P : ℕ → ℕ → Found → Type 0 = Right first txs i (transaction_named txs i).stamp (transaction_named txs i).warp in
+          let P : ℕ → ℕ → Source → Type 0 = IsRightSource first txs i (transaction_named txs i).stamp (transaction_named txs i).warp in
           let e : load_results actions ≡ load_results_alone (serial_account first txs p) actions =
           equal_accounts.same_loads i l ∙ ap (λ o. (serial_account first txs o).loads i) cut
           ∙ loads_alone first txs i p q start (not_back i p q cut)
           in
           let g =
-          found_elsewhere
-          (λ line v f. P line v f × (f ≡ last_found (last_of ((serial_account first txs p).line_writers line))))
+          read_source
+          (λ line v f. P line v f × (f ≡ committed_source (last_of ((serial_account first txs p).line_writers line))))
           line actions r (no_store (last_own_store actions line) t)
-          (finds_the_same P (serial_account first txs p) actions e (S.loads i l))
+          (loads_find_the_same P (serial_account first txs p) actions e (S.loads i l))
           in
-          (g.0, g.1, (g.2.0, g.2.1 ∙ ap (λ ws. last_found (last_of ws)) (turned line p)))
+          (g.0, g.1, (g.2.0, g.2.1 ∙ ap (λ ws. committed_source (last_of ws)) (serial_writers line p)))
         where
           no_store : (o : Option ℕ) → is_some o ≡ false → o ≡ None
           no_store None h = refl
@@ -374,7 +389,7 @@ module _ (first : Lines) (txs : List Transaction) (memory : Lines) (S : Serial f
           (line i : ℕ) (p q : List ℕ) → order ≡ p ++ i ∷ q
           → Rising (filter (wr line) p ++ filter (wr line) (i ∷ q))
       parts_rise line i p q cut =
-          subst Rising (ap (filter (wr line)) cut ∙ kept_append (wr line) p (i ∷ q)) (turns_rise line)
+          subst Rising (ap (filter (wr line)) cut ∙ filter_append (wr line) p (i ∷ q)) (turns_rise line)
 
       module _ (a b : ℕ) (a_low : a < n) (b_low : b < n) (line : ℕ) (time : is_earlier txs a b ≡ true) where
         apart : a ≡ b → ⊥
@@ -385,7 +400,7 @@ module _ (first : Lines) (txs : List Transaction) (memory : Lines) (S : Serial f
 
         both_write : wr line a ≡ true → wr line b ≡ true → is_before order a b ≡ true
         both_write ta tb =
-            before_from_rises (wr line) order a b (turns_rise line) ta tb (stands a a_low) (stands b b_low)
+            before_from_rising (wr line) order a b (turns_rise line) ta tb (stands a a_low) (stands b b_low)
             (smaller (cases_order a b))
           where
             smaller : (a ≡ b) ⊎ ((a < b) ⊎ (b < a)) → a < b
@@ -407,35 +422,35 @@ module _ (first : Lines) (txs : List Transaction) (memory : Lines) (S : Serial f
             (in_front s.front s.back s.whole g.1 g.2.0.after g.2.1))
           where
             in_front :
-                (p q : List ℕ) → order ≡ p ++ b ∷ q → (f : Found)
-                → ((j : ℕ) → wr line j ≡ true → seen f ≤ j → (j ≡ b → ⊥)
+                (p q : List ℕ) → order ≡ p ++ b ∷ q → (f : Source)
+                → ((j : ℕ) → wr line j ≡ true → commits_seen f ≤ j → (j ≡ b → ⊥)
                 → Earlier (key_at first txs b) b (key_at first txs j) j)
-                → f ≡ last_found (last_of (filter (wr line) p)) → has a p ≡ true
+                → f ≡ committed_source (last_of (filter (wr line) p)) → has a p ≡ true
             in_front p q cut f later e = by_last (last_of (filter (wr line) p)) refl
               where
-                saw : a < seen f
+                saw : a < commits_seen f
                 saw =
                     ⊎_elim (λ l. l)
                     (λ l.
                     let t = bit_earlier a b a_low b_low time in
                     let u = later a ta l apart in
                     absurd (omega (arith, t.1, u.1)))
-                    (cases_lt a (seen f))
+                    (cases_lt a (commits_seen f))
 
                 in_whole : has a (p ++ b ∷ q) ≡ true
                 in_whole = subst (λ o. has a o ≡ true) cut (stands a a_low)
 
                 by_last : (o : Option ℕ) → last_of (filter (wr line) p) ≡ o → has a p ≡ true
                 by_last None k =
-                    let z : seen f ≡ 0 = ap seen (e ∙ ap last_found k) in absurd (omega (arith, saw))
+                    let z : commits_seen f ≡ 0 = ap commits_seen (e ∙ ap committed_source k) in absurd (omega (arith, saw))
                 by_last (Some j) k =
-                    let z : seen f ≡ suc j = ap seen (e ∙ ap last_found k) in
+                    let z : commits_seen f ≡ suc j = ap commits_seen (e ∙ ap committed_source k) in
                     ⊎_elim (λ h. h)
                     (λ h.
                     let up : j < a =
                     rising_apart (filter (wr line) p) (filter (wr line) (b ∷ q)) j a
                     (parts_rise line b p q cut)
-                    (last_stands (filter (wr line) p) j k) (kept_has (wr line) a (b ∷ q) h ta)
+                    (last_is_in (filter (wr line) p) j k) (filter_has (wr line) a (b ∷ q) h ta)
                     in
                     absurd (omega (arith, saw)))
                     (or_cases (has a p) (has a (b ∷ q)) (sym (has_append a p (b ∷ q)) ∙ in_whole))
@@ -451,9 +466,9 @@ module _ (first : Lines) (txs : List Transaction) (memory : Lines) (S : Serial f
             ∙ in_back s.front s.back s.whole g.1 g.2.0.before g.2.1)
           where
             in_back :
-                (p q : List ℕ) → order ≡ p ++ a ∷ q → (f : Found)
-                → ((j : ℕ) → wr line j ≡ true → j < seen f → stamp_at first txs j < (transaction_named txs a).stamp)
-                → f ≡ last_found (last_of (filter (wr line) p)) → has b q ≡ true
+                (p q : List ℕ) → order ≡ p ++ a ∷ q → (f : Source)
+                → ((j : ℕ) → wr line j ≡ true → j < commits_seen f → stamp_at first txs j < (transaction_named txs a).stamp)
+                → f ≡ committed_source (last_of (filter (wr line) p)) → has b q ≡ true
             in_back p q cut f sooner e =
                 by_cases (or_cases (has b p) (has b (a ∷ q)) (sym (has_append b p (a ∷ q)) ∙ in_whole))
               where
@@ -462,11 +477,11 @@ module _ (first : Lines) (txs : List Transaction) (memory : Lines) (S : Serial f
 
                 not_sooner : has b p ≡ true → ⊥
                 not_sooner h =
-                    let k = kept_has (wr line) b p h tb in
+                    let k = filter_has (wr line) b p h tb in
                     let j = last_some (filter (wr line) p) b k in
-                    let z : seen f ≡ suc j.0 = ap seen (e ∙ ap last_found j.1) in
+                    let z : commits_seen f ≡ suc j.0 = ap commits_seen (e ∙ ap committed_source j.1) in
                     let r = rising_left (filter (wr line) p) (filter (wr line) (a ∷ q)) (parts_rise line a p q cut) in
-                    let top : b ≤ j.0 = last_tops (filter (wr line) p) j.0 b r j.1 k in
+                    let top : b ≤ j.0 = last_is_greatest (filter (wr line) p) j.0 b r j.1 k in
                     let u : stamp_at first txs b < (transaction_named txs a).stamp = sooner b tb (omega arith) in
                     let t = bit_earlier a b a_low b_low time in
                     omega (arith, t.1, S.warps a a_low, S.warps b b_low)
@@ -476,20 +491,20 @@ module _ (first : Lines) (txs : List Transaction) (memory : Lines) (S : Serial f
                 by_cases (inr h) = sym (ap (λ c. c || has b q) (ne_eqb a b apart)) ∙ h
 
         stands_first :
-            Clashing (wr line a) (is_read (transaction_named txs a).actions line) (wr line b)
+            ConflictKind (wr line a) (is_read (transaction_named txs a).actions line) (wr line b)
             (is_read (transaction_named txs b).actions line)
             → is_before order a b ≡ true
         stands_first (two_writers ta tb) = both_write ta tb
-        stands_first (then_reader ta tb rb) = writer_first ta tb rb
-        stands_first (reader_then ta ra tb) = reader_first ta ra tb
+        stands_first (writer_and_reader ta tb rb) = writer_first ta tb rb
+        stands_first (reader_and_writer ta ra tb) = reader_first ta ra tb
 
       in_logical_order : IsInLogicalOrder txs order
-      in_logical_order a b a_low b_low clash time =
-          stands_first a b a_low b_low clash.0 time
-          (clashing (wr clash.0 a) (is_read (transaction_named txs a).actions clash.0) (wr clash.0 b)
-          (is_read (transaction_named txs b).actions clash.0) clash.1)
+      in_logical_order a b a_low b_low conflict time =
+          stands_first a b a_low b_low conflict.0 time
+          (conflict_kind (wr conflict.0 a) (is_read (transaction_named txs a).actions conflict.0) (wr conflict.0 b)
+          (is_read (transaction_named txs b).actions conflict.0) conflict.1)
 
--- The accounts agree exactly in the orders that keep logical time among those that clash.
+-- The accounts agree exactly in the orders that keep conflicting transactions in logical time.
 pub accounts_agree :
     (first : Lines) (txs : List Transaction) (memory : Lines) → Serial first txs memory
     → (order : List ℕ) → EachOnce order (length txs)

@@ -9,7 +9,7 @@ use Rattle.protocol.specs.Faults.{fault_in_file}
 use Rattle.protocol.specs.Limits.{last_stamp}
 use Rattle.protocol.specs.declared.fault.Refusal.TheVariants.{BadStamp}
 use Rattle.calls.specs.Format.{header_fault, numbers, stamps, values, rows_place}
-use Rattle.calls.specs.Headers.{Shaped}
+use Rattle.calls.specs.Headers.{HasShape}
 use Rattle.calls.specs.declared.header.Shape.{Shape}
 use Rattle.calls.proofs.HeaderChecks.{long_enough}
 use Rattle.calls.proofs.NumberSteps.{numbers_of_part, numbers_length, late_by_number}
@@ -19,7 +19,7 @@ abbrev pub part_numbers : List ℕ → ℕ → ℕ → List ℕ
 part_numbers bytes start stop =
     numbers (take (stop - start) (drop start bytes)) 0 (length (take (stop - start) (drop start bytes)) / 4)
 
-module _ (bytes : List ℕ) (shape : Shape) (shaped : Shaped bytes shape) where
+module _ (bytes : List ℕ) (shape : Shape) (shaped : HasShape bytes shape) where
   abbrev values_at : ℕ
   values_at = 9 + 4 * shape.warps
 

@@ -1,17 +1,21 @@
 -- What is read of the front of a long file is what is read of the whole.
-use Rattle.std.proofs.Common.{◌≡◌, ℕ, zero, suc, ◌+◌, ◌*◌, ◌<◌, ◌≤◌, Bool, true, false, eqb, leb, List, length, get_or, take, is_some, Some, sym, refl, ap, ◌∙◌, ap₂, ⊎_elim, arith, length-take, get_or-take}
+use Rattle.std.proofs.Common.{◌≡◌, ℕ, zero, suc, ◌+◌, ◌*◌, ◌<◌, ◌≤◌, Bool, true, false, eqb, leb}
+use Rattle.std.proofs.Common.{List, length, get_or, take, is_some, Some, sym, refl, ap, ◌∙◌, ap₂}
+use Rattle.std.proofs.Common.{⊎_elim, arith, length-take, get_or-take}
 use Rattle.std.proofs.lemmas.List.{take_all}
 use Rattle.std.proofs.lemmas.Bool.{cases_lt, le-leb, lt-leb, le-ltb}
 use Rattle.std.proofs.lemmas.Bool.Decides.{nat_tests}
 use Rattle.std.specs.Option.{option_map, ok_or}
 use Rattle.protocol.specs.Faults.{fault_in_file}
 use Rattle.protocol.specs.declared.fault.Refusal.TheVariants.{BadStamp, BadLetter}
-use Rattle.calls.specs.Format.{header_fault, has_marks, two_bytes, book_named, has_sizes, warps, lines, stamps, values}
+use Rattle.calls.specs.Format.{header_fault, has_marks, two_bytes, book_named, has_sizes, warps}
+use Rattle.calls.specs.Format.{lines, stamps, values}
 use Rattle.calls.specs.Format.{rows_place, late_stamp_place, numbers, rows_from, row_at, row_before}
 use Rattle.calls.specs.Format.{file_rows}
 use Rattle.calls.specs.Front.{ReadAlike, Suffices, longest_file}
 use Rattle.calls.proofs.SameBytes.{SameBytes, same_in_take, same_two, same_numbers, same_call}
-use Rattle.calls.proofs.HeaderChecks.{wrong_mark, wrong_version, wrong_book, wrong_size, long_enough, sound_size}
+use Rattle.calls.proofs.HeaderChecks.{wrong_mark, wrong_version, wrong_book, wrong_size}
+use Rattle.calls.proofs.HeaderChecks.{long_enough, sound_size}
 
 module _ (bytes : List ℕ) (n : ℕ) (long : n < length bytes) (enough : longest_file < n) where
   abbrev front : List ℕ

@@ -1,11 +1,14 @@
 -- The first check of a header that fails is what is told.
-use Rattle.std.proofs.Common.{◌≡◌, ℕ, Bool, true, false, eqb, leb, List, [], ◌∷◌, length, get_or, is_some, Some, None, Option, refl}
+use Rattle.std.proofs.Common.{◌≡◌, ℕ, Bool, true, false, eqb, leb, List, [], ◌∷◌, length, get_or}
+use Rattle.std.proofs.Common.{is_some, Some, None, Option, refl}
 use Rattle.std.specs.Option.{option_map}
 use Rattle.protocol.specs.Faults.{fault_in_file}
 use Rattle.protocol.specs.declared.fault.Fault.{Fault}
-use Rattle.protocol.specs.declared.fault.Refusal.TheVariants.{BadSize, BadStamp, BadMark, BadVersion}
+use Rattle.protocol.specs.declared.fault.Refusal.TheVariants.{BadSize, BadStamp, BadMark}
+use Rattle.protocol.specs.declared.fault.Refusal.TheVariants.{BadVersion}
 use Rattle.protocol.specs.declared.fault.Refusal.TheVariants.{BadLetter}
-use Rattle.calls.specs.Format.{header_fault, first_found, has_marks, two_bytes, book_named, has_sizes}
+use Rattle.calls.specs.Format.{header_fault, first_found, has_marks, two_bytes, book_named}
+use Rattle.calls.specs.Format.{has_sizes}
 use Rattle.calls.specs.Format.{rows_place, late_stamp_place, stamps}
 
 only_found : (found : Option Fault) → first_found (found ∷ []) ≡ found

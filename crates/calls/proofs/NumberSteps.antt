@@ -1,5 +1,7 @@
 -- The numbers of some bytes by fours, and the stamps by their places.
-use Rattle.std.proofs.Common.{◌≡◌, ℕ, zero, suc, ◌+◌, ◌-◌, ◌*◌, ◌/◌, ◌≤◌, List, [], ◌∷◌, length, take, drop, map, refl, sym, ap, ◌∙◌, ap₂, ⊎_elim, arith, length-take, length-drop}
+use Rattle.std.proofs.Common.{◌≡◌, ℕ, zero, suc, ◌+◌, ◌-◌, ◌*◌, ◌/◌, ◌≤◌, List, [], ◌∷◌, length}
+use Rattle.std.proofs.Common.{take, drop, map, refl, sym, ap, ◌∙◌, ap₂, ⊎_elim, arith, length-take}
+use Rattle.std.proofs.Common.{length-drop}
 use Rattle.std.specs.Prelude.{nat_lt}
 use Rattle.std.specs.Simd.{first_chunks}
 use Rattle.std.specs.List.{position, position_from}
@@ -8,7 +10,8 @@ use Rattle.std.proofs.lemmas.Iterator.Adapters.{position_from-zero}
 use Rattle.std.proofs.lemmas.Bool.{cases_lt, le-leb, lt-leb, lt-ltb, le-ltb}
 use Rattle.protocol.specs.Limits.{last_stamp}
 use Rattle.calls.specs.Format.{numbers, four_bytes, late_stamp_place}
-use Rattle.calls.proofs.SameBytes.{same_in_take, same_in_part, same_in_rest, same_four, same_numbers}
+use Rattle.calls.proofs.SameBytes.{same_in_take, same_in_part, same_in_rest, same_four}
+use Rattle.calls.proofs.SameBytes.{same_numbers}
 
 pub numbers_length : (bytes : List ℕ) (place n : ℕ) → length (numbers bytes place n) ≡ n
 numbers_length bytes place zero = refl

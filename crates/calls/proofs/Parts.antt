@@ -1,5 +1,7 @@
--- Where the sizes are right and the file is long enough, each part that is read is the one that the format says.
-use Rattle.std.proofs.Common.{◌≡◌, ℕ, ◌+◌, ◌-◌, ◌*◌, ◌/◌, ◌≤◌, List, length, take, drop, is_some, Option, refl, sym, ap, ◌∙◌, ap₂, arith}
+-- Where the sizes are right and the file is long enough, each part that is read is the one that the
+-- format says.
+use Rattle.std.proofs.Common.{◌≡◌, ℕ, ◌+◌, ◌-◌, ◌*◌, ◌/◌, ◌≤◌, List, length, take, drop, is_some}
+use Rattle.std.proofs.Common.{Option, refl, sym, ap, ◌∙◌, ap₂, arith}
 use Rattle.std.specs.Prelude.{nat_lt}
 use Rattle.std.specs.List.{position}
 use Rattle.std.specs.Option.{option_map}

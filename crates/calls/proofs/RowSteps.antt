@@ -1,5 +1,9 @@
--- What has been read and what is still to be read are the whole: kept by a row more, and whole at the last row.
-use Rattle.std.proofs.Common.{◌≡◌, ℕ, zero, suc, ◌+◌, ◌-◌, ◌*◌, ◌/◌, ◌<◌, ◌≤◌, min, cond, leb, ltb, List, [], ◌∷◌, ◌++◌, length, take, drop, get_or, Some, None, Ok, Err, Option, Result, sym, refl, ap, ◌∙◌, ap₂, ◌⊎◌, ⊎_elim, append_assoc, append-nil, arith, length-take, length-drop, get_or-take, drop-drop}
+-- What has been read and what is still to be read are the whole: kept by a row more, and whole at
+-- the last row.
+use Rattle.std.proofs.Common.{◌≡◌, ℕ, zero, suc, ◌+◌, ◌-◌, ◌*◌, ◌/◌, ◌<◌, ◌≤◌, min, cond, leb, ltb}
+use Rattle.std.proofs.Common.{List, [], ◌∷◌, ◌++◌, length, take, drop, get_or, Some, None, Ok, Err}
+use Rattle.std.proofs.Common.{Option, Result, sym, refl, ap, ◌∙◌, ap₂, ◌⊎◌, ⊎_elim, append_assoc}
+use Rattle.std.proofs.Common.{append-nil, arith, length-take, length-drop, get_or-take, drop-drop}
 use Rattle.std.specs.Simd.{first_chunks}
 use Rattle.std.specs.List.{slice_range}
 use Rattle.std.proofs.lemmas.List.{take_all, drop_all}
@@ -10,7 +14,8 @@ use Rattle.protocol.specs.Faults.{fault_in_file}
 use Rattle.protocol.specs.declared.call.Call.{Call}
 use Rattle.protocol.specs.declared.fault.Fault.{Fault}
 use Rattle.protocol.specs.declared.fault.Refusal.TheVariants.{CutShort, TooManyRows, BadLetter}
-use Rattle.calls.specs.Format.{Rows, rows_from, row_before, row_at, row_result, row_call, empty_rows, file_fault_unless}
+use Rattle.calls.specs.Format.{Rows, rows_from, row_before, row_at, row_result, row_call}
+use Rattle.calls.specs.Format.{empty_rows, file_fault_unless}
 use Rattle.calls.proofs.SameBytes.{same_in_part, same_call}
 
 -- Some calls before some rows.

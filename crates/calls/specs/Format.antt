@@ -1,6 +1,8 @@
--- The calls file, byte by byte. Places count bytes from 0. A byte past the end of the file reads as 0.
+-- The calls file, byte by byte. Places count bytes from 0. A byte past the end of the file reads as
+-- 0.
 use Rattle.std.specs.Prelude.{◌≡◌, ℕ, zero, suc, ◌+◌, ◌*◌, Bool, cond, ◌&&◌, List, [], ◌∷◌, length}
-use Rattle.std.specs.Prelude.{is_some, Some, None, Ok, Err, Option, Result, ◌==◌, nat_le, nat_lt, slice_index}
+use Rattle.std.specs.Prelude.{is_some, Some, None, Ok, Err, Option, Result, ◌==◌, nat_le, nat_lt}
+use Rattle.std.specs.Prelude.{slice_index}
 use Rattle.std.specs.Option.{option_map, ok_or}
 use Rattle.protocol.specs.Calls.{op_named}
 use Rattle.protocol.specs.Faults.{fault_in_file}
@@ -8,7 +10,8 @@ use Rattle.protocol.specs.Limits.{line_limit, warp_limit, last_stamp}
 use Rattle.protocol.specs.declared.call.Call.{Call}
 use Rattle.protocol.specs.declared.fault.Fault.{Fault}
 use Rattle.protocol.specs.declared.fault.Refusal.{Refusal}
-use Rattle.protocol.specs.declared.fault.Refusal.TheVariants.{BadSize, BadStamp, BadMark, BadVersion}
+use Rattle.protocol.specs.declared.fault.Refusal.TheVariants.{BadSize, BadStamp, BadMark}
+use Rattle.protocol.specs.declared.fault.Refusal.TheVariants.{BadVersion}
 use Rattle.protocol.specs.declared.fault.Refusal.TheVariants.{CutShort, BadLetter, TooManyRows}
 use Rattle.calls.specs.declared.file.BookKind.{BookKind}
 use Rattle.calls.specs.declared.file.BookKind.TheVariants.{Exact, Condensed}
@@ -45,8 +48,9 @@ LettersNameBooks = (kind : BookKind) → book_named (book_letter kind) ≡ Some 
 abbrev pub BooksKeepLetters : Type 0
 BooksKeepLetters = (letter : ℕ) (kind : BookKind) → book_named letter ≡ Some kind → book_letter kind ≡ letter
 
--- The header: the letters G, T and M, a 16-bit version, a book's letter, a byte of warps, 16 bits of lines, a first
--- stamp for each warp and a value for each line. Rows follow to the end of the file.
+-- The header: the letters G, T and M, a 16-bit version, a book's letter, a byte of warps, 16 bits
+-- of lines, a first stamp for each warp and a value for each line. Rows follow to the end of the
+-- file.
 module _ (bytes : List ℕ) where
   abbrev pub warps : ℕ
   warps = slice_index bytes 6
@@ -69,7 +73,8 @@ module _ (bytes : List ℕ) where
   abbrev pub has_sizes : Bool
   has_sizes = nat_le 9 (length bytes) && ((nat_lt 0 warps && nat_le warps warp_limit) && (nat_lt 0 lines && nat_le lines line_limit))
 
--- The place of the first stamp that is past the end of the clock, where the stamps begin at a place.
+-- The place of the first stamp that is past the end of the clock, where the stamps begin at a
+-- place.
 abbrev pub late_stamp_place : ℕ → List ℕ → Option ℕ
 late_stamp_place place [] = None
 late_stamp_place place (stamp ∷ rest) = cond (nat_le stamp last_stamp) (late_stamp_place (place + 4) rest) (Some place)
@@ -96,8 +101,8 @@ header_fault bytes =
     ∷ option_map (fault_in_file BadStamp) (late_stamp_place 9 (stamps bytes))
     ∷ [])
 
--- The call in a row: its letter, a byte of warp, 16 bits of line and 32 bits of value. Fields that the call does not need
--- may hold anything.
+-- The call in a row: its letter, a byte of warp, 16 bits of line and 32 bits of value. Fields that
+-- the call does not need may hold anything.
 abbrev pub row_call : List ℕ → ℕ → Option Call
 row_call bytes place =
     option_map

@@ -7,7 +7,8 @@ use Rattle.calls.specs.Format.{row_limit, header_fault, stamps, values, file_row
 abbrev pub longest_file : ℕ
 longest_file = 9 + 4 * warp_limit + 4 * line_limit + 8 * row_limit
 
--- Two files are read alike: both headers are damaged in the same way, or both files have the same content.
+-- Two files are read alike: both headers are damaged in the same way, or both files have the same
+-- content.
 pub record ReadAlike (a b : List ℕ) : Type 0 where
   pub same_fault : header_fault a ≡ header_fault b
   pub same_book : slice_index_or a 5 0 ≡ slice_index b 5

@@ -13,8 +13,8 @@ pub record HoldsContent (bytes : List ℕ) (file : CallsFile) : Type 0 where
   pub calls : vec_items file.calls ≡ (file_rows bytes).calls
   pub fault : file.fault ≡ (file_rows bytes).fault
 
--- A sound header is read with its rows. A damaged one is an error, for the first check that fails. If memory runs out,
--- nothing is promised of the bytes.
+-- A sound header is read with its rows. A damaged one is an error, for the first check that fails.
+-- If memory runs out, nothing is promised of the bytes.
 abbrev pub Reads : List ℕ → Result CallsFile ReadError → Type 0
 Reads bytes (Ok file) = (header_fault bytes ≡ None) × HoldsContent bytes file
 Reads bytes (Err (Damaged fault)) = header_fault bytes ≡ Some fault

@@ -46,8 +46,8 @@ impl TryFrom<char> for BookKind {
     }
 }
 
-/// The content of a file whose header is sound: the machine to make, the calls to make of it, and what is wrong after the
-/// last of these calls, if anything.
+/// The content of a file whose header is sound: the machine to make, the calls to make of it, and
+/// what is wrong after the last of these calls, if anything.
 #[derive(Drop)]
 pub struct CallsFile {
     pub book: BookKind,

@@ -1,5 +1,6 @@
 //! The header: marks, version, book, sizes, first stamps and line values.
-ghost use Rattle.std.specs.Prelude.{◌≡◌, ◌/◌, ◌<◌, length, position, IfOk, IfSome, MatchResult, nat_lt};
+ghost use Rattle.std.specs.Prelude.{◌≡◌, ◌/◌, ◌<◌, length, position, IfOk, IfSome, MatchResult};
+ghost use Rattle.std.specs.Prelude.{nat_lt};
 ghost use Rattle.protocol.specs.Limits.{last_stamp};
 ghost use Rattle.calls.specs.Format.{four_bytes, numbers};
 ghost use Rattle.calls.specs.Headers.{HasVersion, HasShape, IsDamagedBy};

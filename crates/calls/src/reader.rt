@@ -12,8 +12,8 @@ use std::alloc::Global;
 /// The place of the first stamps, after the marks, the version, the book's letter and the sizes.
 const STAMPS_PLACE: usize = 9;
 
-/// Reads a calls file. A damaged header is an error, for the first check that fails. A damaged row ends the calls, and the
-/// file's `fault` says what is wrong with it.
+/// Reads a calls file. A damaged header is an error, for the first check that fails. A damaged row
+/// ends the calls, and the file's `fault` says what is wrong with it.
 pub fn read(heap: Global, bytes: &[u8]) -> Result<CallsFile, ReadError>
     ensures { Reads bytes.now result }
 {
@@ -38,8 +38,8 @@ pub fn read(heap: Global, bytes: &[u8]) -> Result<CallsFile, ReadError>
     })
 }
 
-/// The number of first bytes that decide what is read of a file, however long the file is: one more than the longest file
-/// has.
+/// The number of first bytes that decide what is read of a file, however long the file is: one more
+/// than the longest file has.
 pub fn enough_bytes() -> usize
     ensures tells { Suffices result }
     ensures one_more { result ≡ longest_file + 1 }

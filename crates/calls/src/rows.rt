@@ -37,7 +37,8 @@ fn read_row(row: &[u8; ROW_BYTES], place: usize) -> Result<Call, Fault>
     })
 }
 
-/// The rows from a place of the file to its end. It takes all bytes of the file, since faults name places in the file.
+/// The rows from a place of the file to its end. It takes all bytes of the file, since faults name
+/// places in the file.
 pub(crate) fn read_rows(heap: Global, bytes: &[u8], start: usize) -> Result<RowsRead, AllocError>
     ensures { IfOk result (λ read. HoldsRows read (rows_from bytes.now row_limit start)) }
 {
@@ -59,7 +60,8 @@ pub(crate) fn read_rows(heap: Global, bytes: &[u8], start: usize) -> Result<Rows
     Ok(RowsRead { calls, fault })
 }
 
-// What is wrong at the place where the whole rows end: bytes that follow are a row that is cut short, or one row too many.
+// What is wrong at the place where the whole rows end: bytes that follow are a row that is cut
+// short, or one row too many.
 fn after_rows(bytes: &[u8], place: usize, rows: usize) -> Option<Fault>
     ensures { result ≡ file_fault_unless (nat_le (length bytes.now) place)
         (cond (nat_lt rows row_limit) CutShort TooManyRows) place }

@@ -1,5 +1,6 @@
 -- A text about a file's vectors has the listing of the file in it.
-use Rattle.std.proofs.Common.{◌≡◌, ℕ, List, length, IfOk, Ok, Err, vec_items, string_bytes, Option, Result, sym, subst}
+use Rattle.std.proofs.Common.{◌≡◌, ℕ, List, length, IfOk, Ok, Err, vec_items, string_bytes, Option}
+use Rattle.std.proofs.Common.{Result, sym, subst}
 use Rattle.std.specs.declared.string.String.{String}
 use Rattle.protocol.specs.declared.call.Call.{Call}
 use Rattle.protocol.specs.declared.fault.Fault.{Fault}

@@ -11,8 +11,8 @@ use memory::Memory;
 use protocol::{Call, Fault};
 use std::alloc::{AllocError, Global};
 
-/// What a machine is to do: the first stamps and the calls, what is wrong after the calls, and how many lines are listed
-/// at the end.
+/// What a machine is to do: the first stamps and the calls, what is wrong after the calls, and how
+/// many lines are listed at the end.
 #[derive(Clone, Copy)]
 pub struct Script<'a> {
     pub stamps: &'a [u32],

@@ -12,7 +12,8 @@ use memory::{Memory, WordMemory};
 use protocol::Fault;
 use std::alloc::{AllocError, Global};
 
-/// Writes texts that have a listing in them. Its ghost member `listing_in` is the listing in a text.
+/// Writes texts that have a listing in them. Its ghost member `listing_in` is the listing in a
+/// text.
 pub trait ScriptWriter {
     ghost listing_in: { List ℕ → List ℕ };
 

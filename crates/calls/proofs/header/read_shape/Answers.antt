@@ -1,5 +1,6 @@
 -- Each letter and size that is read is the byte that a check looks at.
-use Rattle.std.proofs.Common.{◌≡◌, true, false, get_or, is_some, Some, None, Ok, Option, Result, ap, ◌∙◌, arith}
+use Rattle.std.proofs.Common.{◌≡◌, true, false, get_or, is_some, Some, None, Ok, Option, Result, ap}
+use Rattle.std.proofs.Common.{◌∙◌, arith}
 use Rattle.std.specs.Option.{ok_or}
 use Rattle.std.specs.Result.{MatchResult, IsErrAnd}
 use Rattle.std.proofs.lemmas.Bool.Decides.{nat_tests}

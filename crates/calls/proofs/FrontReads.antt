@@ -1,17 +1,21 @@
 -- What is read of the front of a long file is what is read of the whole.
-use Rattle.std.proofs.Common.{◌≡◌, ℕ, zero, suc, ◌+◌, ◌*◌, ◌<◌, ◌≤◌, Bool, true, false, eqb, leb, List, length, get_or, take, is_some, Some, sym, refl, ap, ◌∙◌, ap₂, ⊎_elim, arith, length-take, get_or-take}
+use Rattle.std.proofs.Common.{◌≡◌, ℕ, zero, suc, ◌+◌, ◌*◌, ◌<◌, ◌≤◌, Bool, true, false, eqb, leb}
+use Rattle.std.proofs.Common.{List, length, get_or, take, is_some, Some, sym, refl, ap, ◌∙◌, ap₂}
+use Rattle.std.proofs.Common.{⊎_elim, arith, length-take, get_or-take}
 use Rattle.std.proofs.lemmas.List.{take_all}
 use Rattle.std.proofs.lemmas.Bool.{cases_lt, le-leb, lt-leb, le-ltb}
 use Rattle.std.proofs.lemmas.Bool.Decides.{nat_tests}
 use Rattle.std.specs.Option.{option_map, ok_or}
 use Rattle.protocol.specs.Faults.{fault_in_file}
 use Rattle.protocol.specs.declared.fault.Refusal.TheVariants.{BadStamp, BadLetter}
-use Rattle.calls.specs.Format.{header_fault, marked, two_bytes, book_named, sized, warps, lines, stamps, values}
-use Rattle.calls.specs.Format.{rows_place, late_stamp, numbers, rows_from, row_at, row_before}
+use Rattle.calls.specs.Format.{header_fault, has_marks, two_bytes, book_named, has_sizes, warps}
+use Rattle.calls.specs.Format.{lines, stamps, values}
+use Rattle.calls.specs.Format.{rows_place, late_stamp_place, numbers, rows_from, row_at, row_before}
 use Rattle.calls.specs.Format.{file_rows}
 use Rattle.calls.specs.Front.{ReadAlike, Suffices, longest_file}
 use Rattle.calls.proofs.SameBytes.{SameBytes, same_in_take, same_two, same_numbers, same_call}
-use Rattle.calls.proofs.HeaderChecks.{wrong_mark, wrong_version, wrong_book, wrong_size, long_enough, sound_size}
+use Rattle.calls.proofs.HeaderChecks.{wrong_mark, wrong_version, wrong_book, wrong_size}
+use Rattle.calls.proofs.HeaderChecks.{long_enough, sound_size}
 
 module _ (bytes : List ℕ) (n : ℕ) (long : n < length bytes) (enough : longest_file < n) where
   abbrev front : List ℕ
@@ -51,7 +55,7 @@ module _ (bytes : List ℕ) (n : ℕ) (long : n < length bytes) (enough : longes
   rows_alike (suc more) place h =
       ap₂ row_before (row_alike place (omega arith)) (rows_alike more (place + 8) (omega arith))
 
-  marks_alike : marked front ≡ marked bytes
+  marks_alike : has_marks front ≡ has_marks bytes
   marks_alike = simp (at 0 (omega arith), at 1 (omega arith), at 2 (omega arith))
 
   warps_alike : warps front ≡ warps bytes
@@ -60,13 +64,13 @@ module _ (bytes : List ℕ) (n : ℕ) (long : n < length bytes) (enough : longes
   lines_alike : lines front ≡ lines bytes
   lines_alike = two_alike 7 (omega arith)
 
-  sizes_alike : sized front ≡ sized bytes
+  sizes_alike : has_sizes front ≡ has_sizes bytes
   sizes_alike =
       let e = front_length in
       simp (le-leb 9 (length front) (omega arith), le-leb 9 (length bytes) (omega arith), warps_alike, lines_alike)
 
   -- Where the sizes are sound, the header and every row lie in the front.
-  module _ (s : sized bytes ≡ true) where
+  module _ (s : has_sizes bytes ≡ true) where
     few_warps : warps bytes ≤ 32
     few_warps = grind (arith, nat_tests)
 
@@ -106,8 +110,8 @@ module _ (bytes : List ℕ) (n : ℕ) (long : n < length bytes) (enough : longes
 
   -- The checks pass or fail alike, one after the other.
   faults_alike :
-      (m v b s : Bool) → marked bytes ≡ m → eqb (two_bytes bytes 3) 1 ≡ v → is_some (book_named (get_or bytes 5 0)) ≡ b
-      → sized bytes ≡ s → header_fault front ≡ header_fault bytes
+      (m v b s : Bool) → has_marks bytes ≡ m → eqb (two_bytes bytes 3) 1 ≡ v → is_some (book_named (get_or bytes 5 0)) ≡ b
+      → has_sizes bytes ≡ s → header_fault front ≡ header_fault bytes
   faults_alike false v b s p q r t = wrong_mark front (marks_alike ∙ p) ∙ sym (wrong_mark bytes p)
   faults_alike true false b s p q r t =
       wrong_version front (marks_alike ∙ p) (ap (λ x. eqb x 1) (two_alike 3 (omega arith)) ∙ q)
@@ -125,7 +129,7 @@ module _ (bytes : List ℕ) (n : ℕ) (long : n < length bytes) (enough : longes
       long_enough front (marks_alike ∙ p) (ap (λ x. eqb x 1) (two_alike 3 (omega arith)) ∙ q)
       (ap (λ x. is_some (book_named x)) book_alike ∙ r) (sizes_alike ∙ t)
       (rows_within t front (place_alike t) (omega arith))
-      ∙ ap (λ x. option_map (fault_in_file BadStamp) (late_stamp 9 x)) (stamps_alike t)
+      ∙ ap (λ x. option_map (fault_in_file BadStamp) (late_stamp_place 9 x)) (stamps_alike t)
       ∙ sym (long_enough bytes p q r t (rows_within t bytes refl (omega arith)))
 
   long_alike : ReadAlike front bytes

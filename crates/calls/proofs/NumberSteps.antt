@@ -1,5 +1,7 @@
 -- The numbers of some bytes by fours, and the stamps by their places.
-use Rattle.std.proofs.Common.{◌≡◌, ℕ, zero, suc, ◌+◌, ◌-◌, ◌*◌, ◌/◌, ◌≤◌, List, [], ◌∷◌, length, take, drop, map, refl, sym, ap, ◌∙◌, ap₂, ⊎_elim, arith, length-take, length-drop}
+use Rattle.std.proofs.Common.{◌≡◌, ℕ, zero, suc, ◌+◌, ◌-◌, ◌*◌, ◌/◌, ◌≤◌, List, [], ◌∷◌, length}
+use Rattle.std.proofs.Common.{take, drop, map, refl, sym, ap, ◌∙◌, ap₂, ⊎_elim, arith, length-take}
+use Rattle.std.proofs.Common.{length-drop}
 use Rattle.std.specs.Prelude.{nat_lt}
 use Rattle.std.specs.Simd.{first_chunks}
 use Rattle.std.specs.List.{position, position_from}
@@ -7,8 +9,9 @@ use Rattle.std.specs.Option.{option_map}
 use Rattle.std.proofs.lemmas.Iterator.Adapters.{position_from-zero}
 use Rattle.std.proofs.lemmas.Bool.{cases_lt, le-leb, lt-leb, lt-ltb, le-ltb}
 use Rattle.protocol.specs.Limits.{last_stamp}
-use Rattle.calls.specs.Format.{numbers, four_bytes, late_stamp}
-use Rattle.calls.proofs.SameBytes.{same_in_take, same_in_part, same_in_rest, same_four, same_numbers}
+use Rattle.calls.specs.Format.{numbers, four_bytes, late_stamp_place}
+use Rattle.calls.proofs.SameBytes.{same_in_take, same_in_part, same_in_rest, same_four}
+use Rattle.calls.proofs.SameBytes.{same_numbers}
 
 pub numbers_length : (bytes : List ℕ) (place n : ℕ) → length (numbers bytes place n) ≡ n
 numbers_length bytes place zero = refl
@@ -36,7 +39,7 @@ numbers_of_part bytes start stop count e h =
 
 late_from :
     (place i : ℕ) (stamps : List ℕ)
-    → late_stamp (place + 4 * i) stamps
+    → late_stamp_place (place + 4 * i) stamps
     ≡ option_map (λ k. place + 4 * k) (position_from (λ stamp. nat_lt last_stamp stamp) i stamps)
 late_from place i [] = refl
 late_from place i (stamp ∷ stamps) =
@@ -45,15 +48,15 @@ late_from place i (stamp ∷ stamps) =
     (λ late. simp (lt-leb stamp last_stamp late, lt-ltb last_stamp stamp late))
     (λ early.
     simp (le-leb stamp last_stamp early, le-ltb last_stamp stamp early)
-    (ap (λ p. late_stamp p stamps) e ∙ late_from place (i + 1) stamps))
+    (ap (λ p. late_stamp_place p stamps) e ∙ late_from place (i + 1) stamps))
     (cases_lt last_stamp stamp)
 
 -- The first stamp that is late is at four times its number.
 pub late_by_number :
     (place : ℕ) (stamps : List ℕ)
-    → late_stamp place stamps
+    → late_stamp_place place stamps
     ≡ option_map (λ k. place + 4 * k) (position (λ stamp. nat_lt last_stamp stamp) stamps)
 late_by_number place stamps =
     let e : place ≡ place + 4 * 0 = omega arith in
-    ap (λ p. late_stamp p stamps) e ∙ late_from place 0 stamps
+    ap (λ p. late_stamp_place p stamps) e ∙ late_from place 0 stamps
     ∙ ap (option_map (λ k. place + 4 * k)) (sym (position_from-zero (λ stamp. nat_lt last_stamp stamp) stamps))

@@ -1,5 +1,7 @@
--- Where the sizes are right and the file is long enough, each part that is read is the one that the format says.
-use Rattle.std.proofs.Common.{◌≡◌, ℕ, ◌+◌, ◌-◌, ◌*◌, ◌/◌, ◌≤◌, List, length, take, drop, is_some, Option, refl, sym, ap, ◌∙◌, ap₂, arith}
+-- Where the sizes are right and the file is long enough, each part that is read is the one that the
+-- format says.
+use Rattle.std.proofs.Common.{◌≡◌, ℕ, ◌+◌, ◌-◌, ◌*◌, ◌/◌, ◌≤◌, List, length, take, drop, is_some}
+use Rattle.std.proofs.Common.{Option, refl, sym, ap, ◌∙◌, ap₂, arith}
 use Rattle.std.specs.Prelude.{nat_lt}
 use Rattle.std.specs.List.{position}
 use Rattle.std.specs.Option.{option_map}
@@ -9,7 +11,7 @@ use Rattle.protocol.specs.Faults.{fault_in_file}
 use Rattle.protocol.specs.Limits.{last_stamp}
 use Rattle.protocol.specs.declared.fault.Refusal.TheVariants.{BadStamp}
 use Rattle.calls.specs.Format.{header_fault, numbers, stamps, values, rows_place}
-use Rattle.calls.specs.Headers.{Shaped}
+use Rattle.calls.specs.Headers.{HasShape}
 use Rattle.calls.specs.declared.header.Shape.{Shape}
 use Rattle.calls.proofs.HeaderChecks.{long_enough}
 use Rattle.calls.proofs.NumberSteps.{numbers_of_part, numbers_length, late_by_number}
@@ -19,7 +21,7 @@ abbrev pub part_numbers : List ℕ → ℕ → ℕ → List ℕ
 part_numbers bytes start stop =
     numbers (take (stop - start) (drop start bytes)) 0 (length (take (stop - start) (drop start bytes)) / 4)
 
-module _ (bytes : List ℕ) (shape : Shape) (shaped : Shaped bytes shape) where
+module _ (bytes : List ℕ) (shape : Shape) (shaped : HasShape bytes shape) where
   abbrev values_at : ℕ
   values_at = 9 + 4 * shape.warps
 

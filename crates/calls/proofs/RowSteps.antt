@@ -1,5 +1,9 @@
--- What has been read and what is still to be read are the whole: kept by a row more, and whole at the last row.
-use Rattle.std.proofs.Common.{◌≡◌, ℕ, zero, suc, ◌+◌, ◌-◌, ◌*◌, ◌/◌, ◌<◌, ◌≤◌, min, cond, leb, ltb, List, [], ◌∷◌, ◌++◌, length, take, drop, get_or, Some, None, Ok, Err, Option, Result, sym, refl, ap, ◌∙◌, ap₂, ◌⊎◌, ⊎_elim, append_assoc, append-nil, arith, length-take, length-drop, get_or-take, drop-drop}
+-- What has been read and what is still to be read are the whole: kept by a row more, and whole at
+-- the last row.
+use Rattle.std.proofs.Common.{◌≡◌, ℕ, zero, suc, ◌+◌, ◌-◌, ◌*◌, ◌/◌, ◌<◌, ◌≤◌, min, cond, leb, ltb}
+use Rattle.std.proofs.Common.{List, [], ◌∷◌, ◌++◌, length, take, drop, get_or, Some, None, Ok, Err}
+use Rattle.std.proofs.Common.{Option, Result, sym, refl, ap, ◌∙◌, ap₂, ◌⊎◌, ⊎_elim, append_assoc}
+use Rattle.std.proofs.Common.{append-nil, arith, length-take, length-drop, get_or-take, drop-drop}
 use Rattle.std.specs.Simd.{first_chunks}
 use Rattle.std.specs.List.{slice_range}
 use Rattle.std.proofs.lemmas.List.{take_all, drop_all}
@@ -10,7 +14,8 @@ use Rattle.protocol.specs.Faults.{fault_in_file}
 use Rattle.protocol.specs.declared.call.Call.{Call}
 use Rattle.protocol.specs.declared.fault.Fault.{Fault}
 use Rattle.protocol.specs.declared.fault.Refusal.TheVariants.{CutShort, TooManyRows, BadLetter}
-use Rattle.calls.specs.Format.{Rows, rows_from, row_before, row_at, row_of, row_call, no_rows_but, file_fault_unless}
+use Rattle.calls.specs.Format.{Rows, rows_from, row_before, row_at, row_result, row_call}
+use Rattle.calls.specs.Format.{empty_rows, file_fault_unless}
 use Rattle.calls.proofs.SameBytes.{same_in_part, same_call}
 
 -- Some calls before some rows.
@@ -55,7 +60,7 @@ row_in (suc count) (suc i) bytes h =
 -- The bytes of a whole row say what stands at its place.
 row_stands :
     (bytes : List ℕ) (place : ℕ) → place + 8 ≤ length bytes → (row : List ℕ) → row ≡ take 8 (drop place bytes)
-    → standing (row_of row place) ≡ row_at bytes place
+    → standing (row_result row place) ≡ row_at bytes place
 row_stands bytes place fits row is =
     let begun = lt-leb (length bytes) place (omega arith) in
     let whole = le-ltb (length bytes) (place + 8) fits in
@@ -101,17 +106,17 @@ module _ (bytes : List ℕ) (start : ℕ) (rows : List (List ℕ)) (are : rows �
 
   pub these_stand :
       (i : ℕ) → i < length rows → (n : ℕ) → n ≡ i
-      → standing (row_of (get_or rows i []) (start + 8 * n)) ≡ row_at bytes (start + 8 * i)
+      → standing (row_result (get_or rows i []) (start + 8 * n)) ≡ row_at bytes (start + 8 * i)
   these_stand i inside n e =
       let many = rows_many in
-      ap (λ k. standing (row_of (get_or rows i []) (start + 8 * k))) e
+      ap (λ k. standing (row_result (get_or rows i []) (start + 8 * k))) e
       ∙ row_stands bytes (start + 8 * i) ((row_fits i inside).1) (get_or rows i [])
       (ap (λ xs. get_or xs i []) are
       ∙ get_or-take (min (length here / 8) 4096) (first_chunks 8 (length here / 8) here) i [] (omega arith)
       ∙ row_in (length here / 8) i here (omega arith) ∙ ap (take 8) (drop-drop (8 * i) start bytes))
 
 -- A fault, or none, with no rows after it.
-last_found : (calls : List Call) (found : Option Fault) (rows : Rows) → calls_before calls (no_rows_but found) ≡ rows
+last_found : (calls : List Call) (found : Option Fault) (rows : Rows) → calls_before calls (empty_rows found) ≡ rows
     → (calls ≡ rows.calls) × (found ≡ rows.fault)
 last_found calls found rows e = (sym (append-nil calls) ∙ ap (λ r. r.calls) e, ap (λ r. r.fault) e)
 

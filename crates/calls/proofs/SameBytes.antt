@@ -1,5 +1,7 @@
 -- What is read of a part of a list is what is read of the list, at the place where the part begins.
-use Rattle.std.proofs.Common.{◌≡◌, ℕ, zero, suc, ◌+◌, ◌*◌, ◌<◌, ◌≤◌, List, ◌∷◌, get_or, take, drop, refl, ap, ◌∙◌, ap₂, add-zero, zero-add, add_assoc, arith, get_or-take, get_or-drop}
+use Rattle.std.proofs.Common.{◌≡◌, ℕ, zero, suc, ◌+◌, ◌*◌, ◌<◌, ◌≤◌, List, ◌∷◌, get_or, take, drop}
+use Rattle.std.proofs.Common.{refl, ap, ◌∙◌, ap₂, add-zero, zero-add, add_assoc, arith, get_or-take}
+use Rattle.std.proofs.Common.{get_or-drop}
 use Rattle.std.specs.Option.{option_map}
 use Rattle.protocol.specs.Calls.{op_named}
 use Rattle.protocol.specs.declared.call.Call.{Call}

@@ -1,5 +1,6 @@
 -- What a slice pattern leaves after its first elements is the list without them.
-use Rattle.std.proofs.Common.{◌≡◌, ℕ, ◌+◌, ◌-◌, ◌*◌, List, length, get_or, take, drop, ap, ◌∙◌, ap₂, length-drop, get_or-drop}
+use Rattle.std.proofs.Common.{◌≡◌, ℕ, ◌+◌, ◌-◌, ◌*◌, List, length, get_or, take, drop, ap, ◌∙◌, ap₂}
+use Rattle.std.proofs.Common.{length-drop, get_or-drop}
 use Rattle.std.proofs.lemmas.List.{take_rest}
 use Rattle.calls.specs.Format.{warps, lines}
 

@@ -1,4 +1,4 @@
-//! What a calls file says, and why one cannot be read.
+//! The content of a calls file, and why a file cannot be read.
 ghost use Rattle.std.specs.Prelude.{◌≡◌, ◌≤◌, vec_len};
 ghost use Rattle.std.specs.Option.{ok_or};
 ghost use Rattle.protocol.specs.declared.fault.Refusal.TheVariants.{BadLetter};
@@ -16,7 +16,6 @@ pub enum BookKind {
 }
 
 impl BookKind {
-    // No From: it is the way back of a TryFrom, and reads as such beside it.
     /// The letter by which a calls file asks for the book.
     pub fn letter(self) -> char
         ensures { result ≡ book_letter self }
@@ -47,8 +46,8 @@ impl TryFrom<char> for BookKind {
     }
 }
 
-/// A file whose header is sound: the machine to make, the calls to make of it, and what is wrong with the first row
-/// that names no call, if there is one.
+/// The content of a file whose header is sound: the machine to make, the calls to make of it, and
+/// what is wrong after the last of these calls, if anything.
 #[derive(Drop)]
 pub struct CallsFile {
     pub book: BookKind,
@@ -60,7 +59,7 @@ pub struct CallsFile {
     ghost lines: { vec_len values ≤ 4096 },
 }
 
-/// Why nothing is read: the header is damaged, or there is no memory for what it says.
+/// Why a file cannot be read: its header is damaged, or memory runs out.
 #[derive(Clone, Copy, PartialEq, Eq, Debug)]
 pub enum ReadError {
     Damaged(Fault),

@@ -1,4 +1,4 @@
-//! The calls file: from its bytes to the machine's shape and the calls to make.
+//! The calls file: from its bytes to the machine to make and the calls to make of it.
 #![tactic(auto)]
 
 mod file;

@@ -1,4 +1,4 @@
--- What a call meets, by the state of the machine before it.
+-- What a call finds, read from the state of the machine before it.
 use Rattle.std.specs.Prelude.{◌≡◌, ℕ, Some, None, Option, vec_items}
 use Rattle.std.specs.Option.{option_map}
 use Rattle.protocol.specs.declared.call.Call.{Call}
@@ -15,7 +15,7 @@ use Rattle.explain.specs.declared.before.Before.{Before}
 use Rattle.explain.specs.declared.before.LineFacts.{LineFacts}
 use Rattle.explain.specs.Waiting.{all_waiting}
 
--- A line, as a book tells it.
+-- What a book says of a line.
 abbrev pub line_facts : (k : Kind) → k.State → ℕ → LineFacts
 line_facts k book line =
     record {
@@ -27,7 +27,7 @@ line_facts k book line =
     }
 
 module _ {k : Kind} where
-  -- What the access steps say of a load or a store; nothing of other calls.
+  -- The verdict of the access steps on a load or a store; none for other calls.
   abbrev pub verdict_for : Policy k → Machine k → ℕ → Op → Option Verdict
   verdict_for policy m w Begin = None
   verdict_for policy m w (Load line) = Some (verdict_at policy m w line Read)
@@ -43,7 +43,7 @@ module _ {k : Kind} where
   abbrev pub line_waited : Machine k → ℕ → Option ℕ
   line_waited m w = option_map (λ (r : Request). r.line) (request_of m.queue w)
 
-  -- The line that is asked for, or else the one that the warp waits for.
+  -- The line that the call names, or else the one that its warp waits for.
   abbrev pub line_for : Machine k → ℕ → Op → Option ℕ
   line_for m w Begin = line_waited m w
   line_for m w (Load line) = Some line
@@ -55,7 +55,7 @@ module _ {k : Kind} where
   abbrev pub line_met : Machine k → Call → Option LineFacts
   line_met m call = option_map (line_facts k m.book) (line_for m call.warp call.op)
 
-  -- Facts are what a call of the machine meets.
+  -- The facts are what a call finds in the machine.
   pub record IsBefore (policy : Policy k) (m : Machine k) (call : Call) (facts : Before) : Type 0 where
     pub stamp : facts.stamp ≡ (warp_row_of m call.warp).stamp
     pub verdict : facts.verdict ≡ verdict_met policy m call

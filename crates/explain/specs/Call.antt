@@ -1,4 +1,4 @@
--- A call that is made of a machine.
+-- The facts of a call.
 use Rattle.std.specs.Prelude.{◌≡◌}
 use Rattle.protocol.specs.declared.call.Call.{Call}
 use Rattle.book.specs.Meaning.{Kind}
@@ -10,7 +10,7 @@ use Rattle.explain.specs.After.{IsAfter}
 use Rattle.explain.specs.Before.{IsBefore}
 use Rattle.explain.specs.Waiting.{all_waiting}
 
--- Facts are those of a call: what it meets is read off the machine before it, what it leaves off the machine after it.
+-- The facts of a call: what it finds is read from the machine before it, what it leaves from the machine after it.
 pub record AreFacts {k : Kind} (policy : Policy k) (m : Machine k) (made : Call) (facts : CallFacts) : Type 0 where
   pub call : facts.call ≡ made
   pub reply : facts.reply ≡ (step policy m made).answer

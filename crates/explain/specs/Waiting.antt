@@ -1,4 +1,4 @@
--- Who waits.
+-- The waiting requests.
 use Rattle.std.specs.Prelude.{List}
 use Rattle.std.specs.List.{filter_map, range_with_len}
 use Rattle.protocol.specs.Limits.{warp_limit}
@@ -7,7 +7,7 @@ use Rattle.rules.specs.declared.state.Request.{Request}
 use Rattle.rules.specs.Queue.{request_of}
 use Rattle.rules.specs.State.{Machine}
 
--- The requests of a queue, by their warps' numbers.
+-- The requests of a queue, in the order of their warps' numbers.
 unfoldable pub waiting_in : List Request → List Request
 waiting_in queue = filter_map (request_of queue) (range_with_len 0 warp_limit)
 

@@ -1,4 +1,4 @@
-//! Answers in words, with the causes and the refusals.
+//! Answers, causes and refusals in words.
 use protocol::{Answer, Cause, Fault, Refusal};
 use std::fmt;
 
@@ -8,13 +8,13 @@ pub struct AnswerInWords {
     pub answer: Answer,
 }
 
-/// What a call comes to, its answer or its refusal, printed in words.
+/// The answer to a call or its refusal, printed in words.
 #[derive(Clone, Copy)]
 pub struct ReplyInWords {
     pub reply: Result<Answer, Fault>,
 }
 
-/// Why a transaction is gone.
+/// Why a transaction is gone, in words.
 pub fn cause_words(cause: Cause) -> &'static str {
     match cause {
         Cause::WrittenLater => "a logically later transaction wrote the line",
@@ -24,7 +24,7 @@ pub fn cause_words(cause: Cause) -> &'static str {
     }
 }
 
-/// Why a call is refused, or what is wrong with a file.
+/// Why a call is refused, or what is wrong with a file, in words.
 pub fn refusal_words(refusal: Refusal) -> &'static str {
     match refusal {
         Refusal::NoSuchWarp => "the machine has no such warp",

@@ -1,18 +1,18 @@
-//! A call between what it meets and what it leaves.
+//! A call, with what it finds and what it leaves.
 ghost use Rattle.std.specs.Prelude.{◌≡◌, IfOk, OnOk};
 ghost use Rattle.rules.specs.Steps.{step};
 ghost use Rattle.machine.specs.Meaning.{state, policy_of};
 ghost use Rattle.explain.specs.Call.{AreFacts};
 
-use crate::after::{After, look_after};
-use crate::before::{Before, look_before};
+use crate::after::{After, facts_after};
+use crate::before::{Before, facts_before};
 use book::Book;
 use machine::Machine;
 use memory::Memory;
 use protocol::{Answer, Call, Fault};
 use std::alloc::{AllocError, Global};
 
-/// A call that has been made: its answer or its refusal, what it met and what it left.
+/// A call that has been made: its answer or its refusal, what it found and what it left.
 #[derive(Drop)]
 pub struct CallFacts {
     pub call: Call,
@@ -21,8 +21,8 @@ pub struct CallFacts {
     pub after: After,
 }
 
-/// Makes a call of the machine, and reads off it what the call met and what it has left.
-pub fn make_call<M: Memory, B: Book>(
+/// Makes a call of the machine, and reads from the machine what the call found and what it left.
+pub fn call_with_facts<M: Memory, B: Book>(
     heap: Global,
     machine: &mut Machine<M, B>,
     call: Call,
@@ -32,9 +32,9 @@ pub fn make_call<M: Memory, B: Book>(
     ensures facts { IfOk result
         (λ facts. AreFacts (policy_of B.kind machine.old) (state M.at B.kind B.model machine.old) call facts) }
 {
-    let before = look_before(heap, machine, call)?;
+    let before = facts_before(heap, machine, call)?;
     let reply = machine.call(call);
-    let after = look_after(heap, machine, before.waiting.as_slice())?;
+    let after = facts_after(heap, machine, before.waiting.as_slice())?;
     Ok(CallFacts {
         call,
         reply,

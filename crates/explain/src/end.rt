@@ -1,4 +1,4 @@
-//! The end of an explanation: the memory, or what is wrong with the file.
+//! The end of an explanation: the values of the lines, or what is wrong with the file.
 ghost use Rattle.std.specs.Prelude.{IfOk, string_bytes};
 ghost use Rattle.listing.specs.Rows.{bad_row, mem_row};
 ghost use Rattle.listing.specs.Listing.{end_rows, line_row, mem_rows};
@@ -13,7 +13,7 @@ use memory::Memory;
 use protocol::Fault;
 use std::alloc::{AllocError, Global};
 
-/// The text with the end: what is wrong with the file, or else the lines below a limit.
+/// Adds the end to the text: what is wrong with the file, or else the lines below a limit.
 pub(crate) fn add_end<M: Memory, B: Book>(
     heap: Global,
     text: String,
@@ -25,20 +25,20 @@ pub(crate) fn add_end<M: Memory, B: Book>(
         (string_bytes text) (string_bytes t)) }
 {
     match found {
-        Some(fault) => add_fault(heap, text, fault),
+        Some(fault) => add_damage(heap, text, fault),
         None => add_lines(heap, text, machine, limit),
     }
 }
 
-/// The text with what is wrong with a file.
-pub(crate) fn add_fault(heap: Global, mut text: String, fault: Fault) -> Result<String, AllocError>
+/// Adds what is wrong with a file.
+pub(crate) fn add_damage(heap: Global, mut text: String, fault: Fault) -> Result<String, AllocError>
     ensures { IfOk result (λ t. AddsRow (bad_row fault) (string_bytes text) (string_bytes t)) }
 {
     add_bad_row(&mut text, fault)?;
     add_note(heap, text, &Damage { fault })
 }
 
-// The text with each line below a limit that the machine's memory has.
+// Adds each line below a limit that the machine's memory has.
 #[tactic(auto, using(crate::proofs::Ends::no_rows, crate::proofs::Ends::one_row_more))]
 fn add_lines<M: Memory, B: Book>(
     heap: Global,
@@ -56,7 +56,7 @@ fn add_lines<M: Memory, B: Book>(
     Ok(all)
 }
 
-// The text with a line, if the memory has it.
+// Adds a line, if the memory has it.
 fn add_line<M: Memory, B: Book>(
     heap: Global,
     text: String,
@@ -72,9 +72,10 @@ fn add_line<M: Memory, B: Book>(
     }
 }
 
-// The text with a line's value.
+// Adds a line's value.
 fn add_value(heap: Global, mut text: String, at_end: LineAtEnd) -> Result<String, AllocError>
-    ensures { IfOk result (λ t. AddsRow (mem_row at_end.line at_end.value) (string_bytes text) (string_bytes t)) }
+    ensures { IfOk result (λ t. AddsRow (mem_row at_end.line at_end.value)
+        (string_bytes text) (string_bytes t)) }
 {
     add_mem_row(&mut text, at_end.line, at_end.value)?;
     add_note(heap, text, &at_end)

@@ -1,4 +1,4 @@
-//! The requests that wait.
+//! The waiting requests.
 ghost use Rattle.std.specs.Prelude.{◌≡◌, IfOk};
 ghost use Rattle.machine.specs.Meaning.{state};
 ghost use Rattle.explain.specs.Waiting.{all_waiting};
@@ -10,7 +10,7 @@ use protocol::limits::WARPS;
 use rules::Request;
 use std::alloc::{AllocError, Global};
 
-/// The requests that wait, by their warps' numbers.
+/// The waiting requests, in the order of their warps' numbers.
 #[tactic(auto, unfolding(crate::specs::Waiting::waiting_in))]
 pub(crate) fn find_waiting<M: Memory, B: Book>(
     heap: Global,

@@ -1,4 +1,4 @@
-//! The facts in words.
+//! Facts in words.
 use crate::after::{After, Settled, Wait};
 use crate::answer_words::{AnswerInWords, ReplyInWords, refusal_words};
 use crate::before::{Before, LineFacts};
@@ -8,7 +8,7 @@ use protocol::{Cause, Fault};
 use rules::Verdict;
 use std::fmt;
 
-/// A call and its answer, and then, each on lines of its own, what it met and what it left.
+/// A call and its answer, and then, each on lines of its own, what it found and what it left.
 impl fmt::Display for CallFacts {
     fn fmt<W: fmt::Write>(&self, f: &mut fmt::Formatter<W>) -> fmt::Result {
         let call = CallInWords { call: self.call };
@@ -34,7 +34,7 @@ fn write_step<W: fmt::Write>(f: &mut fmt::Formatter<W>, before: &Before) -> fmt:
     }
 }
 
-/// The access step that a verdict comes from.
+/// The access step that gave a verdict.
 pub fn step_words(verdict: Verdict) -> &'static str {
     match verdict {
         Verdict::OwnLine => "step 1: its warp has the line",
@@ -55,7 +55,7 @@ fn lost_words(cause: Cause) -> &'static str {
     }
 }
 
-/// A line before a call, in two lines of words.
+/// What the book says of a line before a call, in two lines of words.
 impl fmt::Display for LineFacts {
     fn fmt<W: fmt::Write>(&self, f: &mut fmt::Formatter<W>) -> fmt::Result {
         let LineFacts {

@@ -1,5 +1,6 @@
--- Where no call is left, or no answer, no row is.
-use Rattle.std.proofs.Common.{◌≡◌, ℕ, List, [], ◌∷◌, ◌++◌, ◌⊎◌, inl, inr, length, Result, sym, refl, ap, ◌∙◌, append-nil}
+-- If no call is left, or no answer, there are no more rows.
+use Rattle.std.proofs.Common.{◌≡◌, ℕ, List, [], ◌∷◌, ◌++◌, ◌⊎◌, inl, inr, length, Result, sym, refl}
+use Rattle.std.proofs.Common.{ap, ◌∙◌, append-nil}
 use Rattle.protocol.specs.declared.answer.Answer.{Answer}
 use Rattle.protocol.specs.declared.call.Call.{Call}
 use Rattle.protocol.specs.declared.fault.Fault.{Fault}

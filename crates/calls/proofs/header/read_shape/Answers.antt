@@ -1,12 +1,13 @@
 -- Each letter and size that is read is the byte that a check looks at.
-use Rattle.std.proofs.Common.{◌≡◌, true, false, get_or, is_some, Some, None, Ok, Option, Result, ap, ◌∙◌, arith}
+use Rattle.std.proofs.Common.{◌≡◌, true, false, get_or, is_some, Some, None, Ok, Option, Result, ap}
+use Rattle.std.proofs.Common.{◌∙◌, arith}
 use Rattle.std.specs.Option.{ok_or}
 use Rattle.std.specs.Result.{MatchResult, IsErrAnd}
 use Rattle.std.proofs.lemmas.Bool.Decides.{nat_tests}
 use Rattle.protocol.specs.declared.fault.Fault.{Fault}
 use Rattle.protocol.specs.declared.fault.Refusal.{Refusal}
 use Rattle.protocol.specs.declared.fault.Refusal.TheVariants.{BadLetter}
-use Rattle.calls.specs.Format.{book_named, sized}
+use Rattle.calls.specs.Format.{book_named, has_sizes}
 use Rattle.calls.specs.declared.file.BookKind.{BookKind}
 use Rattle.calls.proofs.HeaderChecks.{wrong_size}
 use Rattle.calls.proofs.Tails.{tail_length, warps_at, lines_at}
@@ -33,7 +34,7 @@ returns-then-warps-eq0 c =
     let l =
     lines_at bytes rest h.follows c.from-lines.result
     (c.from-lines.ensures ∙ c.from_be_bytes.ensures) in
-    let not-sized : sized bytes ≡ false = grind (arith, nat_tests) in
+    let not-sized : has_sizes bytes ≡ false = grind (arith, nat_tests) in
     rw c.in_file-then-warps-eq0.ensures (wrong_size bytes h.marks h.version some not-sized)
 
 pub returns : goal.returns

@@ -1,7 +1,9 @@
--- Each turn reads one row; a fault ends the reading, and so does the last whole row that may come or that the file has.
+-- Each turn reads one row; a fault ends the reading, and so does the last whole row that may come
+-- or that the file has.
 use Rattle.std.proofs.Common.{◌≡◌, ◌+◌, ◌-◌, ◌*◌, length, take, add-zero, refl, sym, ap, ◌∙◌, arith}
 use Rattle.calls.specs.Format.{rows_from}
-use Rattle.calls.proofs.RowSteps.{standing, calls_before, rest_is, whole_rows_are, rows_many, these_stand}
+use Rattle.calls.proofs.RowSteps.{standing, calls_before, rest_is, whole_rows_are, rows_many}
+use Rattle.calls.proofs.RowSteps.{these_stand}
 use Rattle.calls.proofs.RowSteps.{row_fits, file_ends, one_more, at_fault, at_last}
 use Rattle.calls.proofs.rows.read_rows.Goals as goal
 

@@ -4,7 +4,8 @@ use Rattle.calls.specs.Format.{rows_from}
 use Rattle.calls.proofs.RowSteps.{calls_before, whole_rows}
 use Rattle.calls.proofs.rows.read_rows.Given as goal
 
--- What has been read and what is still to be read are the whole, and there is room for each whole row.
+-- What has been read and what is still to be read are the whole, and there is room for each whole
+-- row.
 abbrev pub invariant-loop-row : goal.invariant-loop-row
 invariant-loop-row l =
     record {

@@ -4,7 +4,7 @@ use Rattle.std.proofs.lemmas.Grind.{common_steps}
 use Rattle.std.proofs.lemmas.Fmt.{length-decimal-le, IsAscii-decimal}
 use Rattle.std.proofs.lemmas.Str.{IsUtf8-from_ascii}
 use Rattle.listing.proofs.Tails.{text_before}
-use Rattle.listing.proofs.row.Tail.number.Goals as goal
+use Rattle.listing.proofs.row.Tail.prepend_number.Goals as goal
 
 pub write_digits-self-requires : goal.write_digits-self-requires
 write_digits-self-requires c = search (rules, length-decimal-le 20)

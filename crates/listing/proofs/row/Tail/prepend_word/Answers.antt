@@ -2,7 +2,7 @@
 use Rattle.std.proofs.Common.{arith}
 use Rattle.std.proofs.lemmas.Grind.{common_steps}
 use Rattle.listing.proofs.Tails.{text_before}
-use Rattle.listing.proofs.row.Tail.word.Goals as goal
+use Rattle.listing.proofs.row.Tail.prepend_word.Goals as goal
 
 pub invariant_of-self : goal.invariant_of-self
 invariant_of-self c =

@@ -16,7 +16,7 @@ use Rattle.machine.specs.Running.{answers_in}
 use Rattle.listing.specs.Listing.{call_rows, end_rows, run_text}
 use Rattle.listing.specs.Rows.{bad_row, call_row}
 use Rattle.explain.specs.Notes.{AddsRow, AddsRows, kept_from, without_notes}
-use Rattle.explain.proofs.Ends.{fault_told, if_told}
+use Rattle.explain.proofs.Ends.{adds_bad_row, IfOk-map}
 use Rattle.explain.proofs.Rows.{call_row_kept}
 use Rattle.explain.proofs.Scan.{row_with_note, more_rows}
 
@@ -33,9 +33,9 @@ module _ {k : Kind} where
   after m [] = m
   after m (call ∷ calls) = after (step (product_policy k) m call).machine calls
 
-  abbrev answered : Machine k → List Call → List (Result Answer Fault)
-  answered m [] = []
-  answered m (call ∷ calls) = (step (product_policy k) m call).answer ∷ answered (step (product_policy k) m call).machine calls
+  abbrev answers_from : Machine k → List Call → List (Result Answer Fault)
+  answers_from m [] = []
+  answers_from m (call ∷ calls) = (step (product_policy k) m call).answer ∷ answers_from (step (product_policy k) m call).machine calls
 
   run_after :
       (r : Run k) (calls : List Call) → (fold (run_with_call (product_policy k)) r calls).machine ≡ after r.machine calls
@@ -45,25 +45,25 @@ module _ {k : Kind} where
 
   run_answered :
       (r : Run k) (calls : List Call)
-      → answers_in (fold (run_with_call (product_policy k)) r calls).events ≡ answers_in r.events ++ answered r.machine calls
+      → answers_in (fold (run_with_call (product_policy k)) r calls).events ≡ answers_in r.events ++ answers_from r.machine calls
   unfolding run_with_call
   run_answered r [] = sym (append-nil _)
   run_answered r (call ∷ calls) =
       let s = step (product_policy k) r.machine call in
       run_answered (run_with_call (product_policy k) r call) calls
-      ∙ ap (λ answers. answers ++ answered s.machine calls)
+      ∙ ap (λ answers. answers ++ answers_from s.machine calls)
       (map_push (λ (e : Event). e.answer) r.events (event_of (product_policy k) r.machine call))
-      ∙ append_assoc (answers_in r.events) (s.answer ∷ []) (answered s.machine calls)
+      ∙ append_assoc (answers_in r.events) (s.answer ∷ []) (answers_from s.machine calls)
 
   rows_of_calls :
       (place : ℕ) (m : Machine k) (calls : List Call) (found : Option Fault) (limit : ℕ)
-      → call_rows place calls (answered m calls) ++ end_rows found (after m calls).lines limit
+      → call_rows place calls (answers_from m calls) ++ end_rows found (after m calls).lines limit
       ≡ rows_from place m calls found limit
   unfolding rows_from
   rows_of_calls place m [] found limit = refl
   rows_of_calls place m (call ∷ calls) found limit =
       let s = step (product_policy k) m call in
-      append_assoc (call_row place call s.answer) (call_rows (place + 1) calls (answered s.machine calls))
+      append_assoc (call_row place call s.answer) (call_rows (place + 1) calls (answers_from s.machine calls))
       (end_rows found (after s.machine calls).lines limit)
       ∙ ap (λ t. call_row place call s.answer ++ t) (rows_of_calls (place + 1) s.machine calls found limit)
 
@@ -74,17 +74,17 @@ module _ {k : Kind} where
       let start : Run k = record { machine = m; events = [] } in
       ap (λ answers. call_rows 1 calls answers ++ end_rows found (run (product_policy k) m calls).machine.lines limit)
       (run_answered start calls)
-      ∙ ap (λ (n : Machine k). call_rows 1 calls (answered m calls) ++ end_rows found n.lines limit)
+      ∙ ap (λ (n : Machine k). call_rows 1 calls (answers_from m calls) ++ end_rows found n.lines limit)
       (run_after start calls)
       ∙ rows_of_calls 1 m calls found limit
 
--- A text has all rows but the last ones.
-pub record Awaits (text rest whole : List ℕ) : Type 0 where
+-- A text lacks only these last rows of the whole.
+pub record LacksRows (text rest whole : List ℕ) : Type 0 where
   pub completed : (new : List ℕ) → AddsRows rest text new → without_notes new ≡ whole
 
-awaits_all : (whole : List ℕ) → Awaits [] whole whole
+lacks_all_rows : (whole : List ℕ) → LacksRows [] whole whole
 unfolding kept_from
-awaits_all whole =
+lacks_all_rows whole =
     record {
       completed = λ new h.
           ap (λ t. without_notes t) (h.grown ∙ sym (append-nil h.lines))
@@ -92,13 +92,13 @@ awaits_all whole =
           ∙ append-nil whole;
     }
 
-pub awaits_less :
-    (row rest whole old new : List ℕ) → Awaits old (row ++ rest) whole → AddsRows row old new → Awaits new rest whole
-awaits_less row rest whole old new h g =
+pub lacks_fewer_rows :
+    (row rest whole old new : List ℕ) → LacksRows old (row ++ rest) whole → AddsRows row old new → LacksRows new rest whole
+lacks_fewer_rows row rest whole old new h g =
     record { completed = λ last more. h.completed last (more_rows row rest old new last g more) }
 
-pub awaits_first : (text whole : List ℕ) → text ≡ [] → Awaits text whole whole
-awaits_first text whole e = subst (λ t. Awaits t whole whole) (sym e) (awaits_all whole)
+pub lacks_every_row : (text whole : List ℕ) → text ≡ [] → LacksRows text whole whole
+lacks_every_row text whole e = subst (λ t. LacksRows t whole whole) (sym e) (lacks_all_rows whole)
 
 -- The calls that are left, one call less.
 one_call_more :
@@ -108,49 +108,49 @@ one_call_more calls i other more = rw add-one (drop-cons calls i other more)
 
 module _ {k : Kind} where
   -- A call's row is added.
-  pub awaits_next :
+  pub lacks_next_rows :
       (m m' : Machine k) (calls : List Call) (i : ℕ) (other : Call) (found : Option Fault) (limit : ℕ)
       (old new whole : List ℕ)
-      → Awaits old (rows_from (i + 1) m (drop i calls) found limit) whole
+      → LacksRows old (rows_from (i + 1) m (drop i calls) found limit) whole
       → i < length calls
       → m' ≡ (step (product_policy k) m (slice_index_or calls i other)).machine
       → AddsRow
       (call_row (i + 1) (slice_index_or calls i other) (step (product_policy k) m (slice_index_or calls i other)).answer)
       old new
-      → Awaits new (rows_from (i + 1 + 1) m' (drop (i + 1) calls) found limit) whole
+      → LacksRows new (rows_from (i + 1 + 1) m' (drop (i + 1) calls) found limit) whole
   unfolding rows_from
-  awaits_next m m' calls i other found limit old new whole h more after g =
+  lacks_next_rows m m' calls i other found limit old new whole h more after g =
       let call : Call = slice_index_or calls i other in
       let rest : List ℕ = rows_from (i + 1 + 1) (step (product_policy k) m call).machine (drop (i + 1) calls) found limit in
       let row : List ℕ = call_row (i + 1) call (step (product_policy k) m call).answer in
-      let before : Awaits old (row ++ rest) whole =
-      subst (λ cs. Awaits old (rows_from (i + 1) m cs found limit) whole) (one_call_more calls i other more) h in
-      subst (λ n. Awaits new (rows_from (i + 1 + 1) n (drop (i + 1) calls) found limit) whole) (sym after)
-      (awaits_less row rest whole old new before
+      let before : LacksRows old (row ++ rest) whole =
+      subst (λ cs. LacksRows old (rows_from (i + 1) m cs found limit) whole) (one_call_more calls i other more) h in
+      subst (λ n. LacksRows new (rows_from (i + 1 + 1) n (drop (i + 1) calls) found limit) whole) (sym after)
+      (lacks_fewer_rows row rest whole old new before
       (row_with_note row old new (call_row_kept (i + 1) call (step (product_policy k) m call).answer) g))
 
   -- The end is added.
-  pub all_told :
+  pub rows_complete :
       {A E : Type 0} (r : Result (String A) E) (first m : Machine k) (calls : List Call) (i : ℕ)
       (found : Option Fault) (limit : ℕ) (text : List ℕ)
       → length calls ≤ i
-      → Awaits text (rows_from (i + 1) m (drop i calls) found limit) (rows_from 1 first calls found limit)
+      → LacksRows text (rows_from (i + 1) m (drop i calls) found limit) (rows_from 1 first calls found limit)
       → IfOk r (λ t. AddsRows (end_rows found m.lines limit) text (string_bytes t))
       → IfOk r (λ t. without_notes (string_bytes t) ≡ run_text (run (product_policy k) first calls) calls found limit)
   unfolding rows_from
-  all_told r first m calls i found limit text over h g =
+  rows_complete r first m calls i found limit text over h g =
       let whole : List ℕ = rows_from 1 first calls found limit in
-      let before : Awaits text (end_rows found m.lines limit) whole =
-      subst (λ cs. Awaits text (rows_from (i + 1) m cs found limit) whole) (drop_all i calls over) h in
-      if_told r (AddsRows (end_rows found m.lines limit) text)
+      let before : LacksRows text (end_rows found m.lines limit) whole =
+      subst (λ cs. LacksRows text (rows_from (i + 1) m cs found limit) whole) (drop_all i calls over) h in
+      IfOk-map r (AddsRows (end_rows found m.lines limit) text)
       (λ t. without_notes t ≡ run_text (run (product_policy k) first calls) calls found limit)
       (λ new more. before.completed new more ∙ sym (rows_of_run first calls found limit)) g
 
--- A damaged header is all that is told.
-pub damage_told :
+-- The text of a damaged header is one row and its note.
+pub damage_complete :
     {A E : Type 0} (r : Result (String A) E) (fault : Fault) (old : List ℕ) → old ≡ []
     → IfOk r (λ t. AddsRow (bad_row fault) old (string_bytes t))
     → IfOk r (λ t. without_notes (string_bytes t) ≡ bad_row fault)
-damage_told r fault old e h =
-    if_told r (AddsRow (bad_row fault) old) (λ t. without_notes t ≡ bad_row fault)
-    (λ new g. (awaits_first old (bad_row fault) e).completed new (fault_told fault old new g)) h
+damage_complete r fault old e h =
+    IfOk-map r (AddsRow (bad_row fault) old) (λ t. without_notes t ≡ bad_row fault)
+    (λ new g. (lacks_every_row old (bad_row fault) e).completed new (adds_bad_row fault old new g)) h

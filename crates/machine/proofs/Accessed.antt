@@ -6,7 +6,7 @@ use Rattle.protocol.specs.declared.answer.Answer.TheVariants.{Wait, Gone}
 use Rattle.protocol.specs.declared.answer.Cause.{Cause}
 use Rattle.protocol.specs.declared.answer.Cause.TheVariants.{QueueFull}
 use Rattle.protocol.specs.declared.answer.Outcome.{Outcome}
-use Rattle.protocol.specs.declared.answer.Outcome.TheVariants.{Value, Stored, Gone as OutcomeGoneOut}
+use Rattle.protocol.specs.declared.answer.Outcome.TheVariants.{Value, Stored, Gone as OutcomeGone}
 use Rattle.protocol.specs.declared.fault.Fault.{Fault}
 use Rattle.book.specs.Meaning.{Kind}
 use Rattle.book.specs.Time.{Time}
@@ -27,9 +27,9 @@ use Rattle.machine.proofs.Served.{built, then_tables}
 
 module _ {k : Kind} (policy : Policy k) (m : Machine k) (w : ℕ) where
   -- What a step leaves and answers.
-  pub record Leaves (after : Machine k) (answer : Answer) (left : Machine k) (line_state : Result Answer Fault) : Type 0 where
+  pub record Leaves (after : Machine k) (answer : Answer) (left : Machine k) (said : Result Answer Fault) : Type 0 where
     pub machine : after ≡ left
-    pub says : Ok answer ≡ line_state
+    pub says : Ok answer ≡ said
 
   module _ (line : ℕ) (access : Access) where
     abbrev By : Machine k → Answer → Verdict → Type 0
@@ -60,11 +60,11 @@ module _ {k : Kind} (policy : Policy k) (m : Machine k) (w : ℕ) where
         Leaves after answer (wait_step policy m w line access).machine (wait_step policy m w line access).answer
 
     pub by_room :
-        (after : Machine k) (answer : Answer) (line_state full : Bool) (per_line lines : ℕ)
+        (after : Machine k) (answer : Answer) (found full : Bool) (per_line lines : ℕ)
         → per_line ≡ policy.line_room → lines ≡ policy.queue_room
-        → line_state ≡ is_full per_line lines m.queue line → line_state ≡ full
+        → found ≡ is_full per_line lines m.queue line → found ≡ full
         → By after answer (verdict_with_room full (warp_row_of m w).stamp MustWait) → Queues after answer
-    by_room after answer line_state full per_line lines a b is said by =
+    by_room after answer found full per_line lines a b is said by =
         let room = is ∙ ap (λ n. is_full n lines m.queue line) a ∙ ap (λ n. is_full policy.line_room n m.queue line) b in
         subst (λ x. By after answer (verdict_with_room x (warp_row_of m w).stamp MustWait)) (sym said ∙ room) by
 
@@ -127,7 +127,7 @@ module _ {k : Kind} (policy : Policy k) (m : Machine k) (w : ℕ) where
 
   pub fetched_gone :
       (after : Machine k) (answer : Answer) (cause : Cause) (next : ℕ) (outcome : Outcome)
-      → outcome ≡ LostOut cause next → after ≡ (after_end policy m w next).machine → answer ≡ Gone cause next
+      → outcome ≡ OutcomeGone cause next → after ≡ (after_end policy m w next).machine → answer ≡ Gone cause next
       → Fetched after answer outcome
   unfolding fetched_step
   fetched_gone after answer cause next outcome is a says =

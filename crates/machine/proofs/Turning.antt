@@ -3,7 +3,7 @@ use Rattle.std.proofs.Common.{◌≡◌, ℕ, false, ltb, List, [], ◌∷◌, m
 use Rattle.std.proofs.lemmas.List.{nil_from_length}
 use Rattle.std.proofs.lemmas.Bool.{ltb-false}
 use Rattle.protocol.specs.declared.answer.Cause.{Cause}
-use Rattle.protocol.specs.declared.answer.Outcome.TheVariants.{Gone as OutcomeGoneOut}
+use Rattle.protocol.specs.declared.answer.Outcome.TheVariants.{Gone as OutcomeGone}
 use Rattle.book.specs.Meaning.{Kind}
 use Rattle.book.specs.Time.{Time}
 use Rattle.book.specs.declared.book.LineState.{LineState}
@@ -93,7 +93,7 @@ module _ {k : Kind} where
 
     pub tried_lost :
         (access : Access) (cause : Cause) (next : ℕ)
-        → after_settling m w (LostOut cause next) ≡ (after_try (before_tries m) w line access (VerdictGone cause next)).machine
+        → after_settling m w (OutcomeGone cause next) ≡ (after_try (before_tries m) w line access (VerdictGone cause next)).machine
     unfolding after_try
     tried_lost access cause next = refl
 

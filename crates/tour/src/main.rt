@@ -1,4 +1,4 @@
-//! Prints docs/TOUR.md: what golden says of an example, as the libraries behind it say it.
+//! Prints docs/TOUR.md: what golden prints for an example, by the libraries that golden is made of.
 #![tactic(auto)]
 
 use explain::explain;
@@ -9,15 +9,15 @@ use std::fs;
 const INTRODUCTION: &str = "\
 # A tour of golden
 
-`examples/transfers.gtm` has two warps at stamps 20 and 10 and two accounts, line 0 with 100 and line 1 with 50. Each
-warp takes 10 out of one account; then warp 0 goes on to the other, and warp 1 has to begin again.
+`examples/transfers.gtm` has two accounts, line 0 with 100 and line 1 with 50, and two warps, at stamps 20 and 10. Each
+warp moves 10 from one account to the other: warp 0 from line 0 to line 1, warp 1 the other way. They conflict: warp 0
+commits its transfer, and warp 1 has to begin again.
 ";
 
 fn main(rt: HostRuntime) -> anyhow::Result<()> {
     tour(&rt)
 }
 
-// The calls and a listing of theirs, in which one row is wrong.
 fn tour(rt: &HostRuntime) -> anyhow::Result<()> {
     let heap = rt.alloc();
     let calls = fs::read(rt, "transfers.gtm")?;
@@ -46,8 +46,8 @@ fn tour(rt: &HostRuntime) -> anyhow::Result<()> {
     show(rt, "golden --explain transfers.gtm", explained.as_str())
 }
 
-// A command and what it writes.
-fn show(rt: &HostRuntime, command: &str, written: &str) -> anyhow::Result<()> {
-    print!(rt; "```\n$ {command}\n{written}```\n")?;
+// Prints a command and its output.
+fn show(rt: &HostRuntime, command: &str, output: &str) -> anyhow::Result<()> {
+    print!(rt; "```\n$ {command}\n{output}```\n")?;
     Ok(())
 }

@@ -10,22 +10,22 @@ returns-in-OwnLine g c =
     let w = c.args.request.warp in
     let line = c.args.request.line in
     let access = c.args.request.access in
-    let done = by_verdict policy m w line access _ _ _ _ _ _ c.meet.ensures.access c.meet.ensures.line_state
+    let done = by_verdict policy m w line access _ _ _ _ _ _ c.meet.ensures.access c.meet.ensures.line
     c.meet.ensures.time c.in-OwnLine.ensures.value
     (on_own_line policy m w line access _ c.serve_own.result _ c.serve_own.ensures.after
     c.serve_own.ensures.answer c.into.ensures) in
     record { after = done.machine; answer = done.says; memory = c.serve_own.ensures.memory }
 
-pub returns-in-Lost : goal.returns-in-Lost
-returns-in-Lost g c =
+pub returns-in-Gone : goal.returns-in-Gone
+returns-in-Gone g c =
     let m = state g.M.Memory.at g.B.Book.kind g.B.Book.model c.args.self.now in
     let policy = policy_of g.B.Book.kind c.args.self.now in
     let w = c.args.request.warp in
     let line = c.args.request.line in
     let access = c.args.request.access in
-    let done = by_verdict policy m w line access _ _ _ _ _ _ c.meet.ensures.access c.meet.ensures.line_state
-    c.meet.ensures.time c.in-Lost.ensures.value
-    (being_lost policy m w line access _ _ c.in-Lost.cause c.in-Lost.next c.end_as_gone.ensures.after
+    let done = by_verdict policy m w line access _ _ _ _ _ _ c.meet.ensures.access c.meet.ensures.line
+    c.meet.ensures.time c.in-Gone.ensures.value
+    (being_lost policy m w line access _ _ c.in-Gone.cause c.in-Gone.next c.end_as_gone.ensures.after
     c.end_as_gone.ensures.answer) in
     record { after = done.machine; answer = done.says; memory = c.end_as_gone.ensures.memory }
 
@@ -36,7 +36,7 @@ returns-in-MustWait g c =
     let w = c.args.request.warp in
     let line = c.args.request.line in
     let access = c.args.request.access in
-    let done = by_verdict policy m w line access _ _ _ _ _ _ c.meet.ensures.access c.meet.ensures.line_state
+    let done = by_verdict policy m w line access _ _ _ _ _ _ c.meet.ensures.access c.meet.ensures.line
     c.meet.ensures.time c.in-MustWait.ensures.value
     (in_line policy m w line access _ _ c.wait_or_end.ensures.after c.wait_or_end.ensures.answer) in
     record { after = done.machine; answer = done.says; memory = c.wait_or_end.ensures.memory }
@@ -48,7 +48,7 @@ returns-in-GoOn g c =
     let w = c.args.request.warp in
     let line = c.args.request.line in
     let access = c.args.request.access in
-    let done = by_verdict policy m w line access _ _ _ _ _ _ c.meet.ensures.access c.meet.ensures.line_state
+    let done = by_verdict policy m w line access _ _ _ _ _ _ c.meet.ensures.access c.meet.ensures.line
     c.meet.ensures.time c.in-GoOn.ensures.value
     (going_on policy m w line access _ c.serve.result _ c.serve.ensures.after c.serve.ensures.answer
     c.into-in-GoOn.ensures) in

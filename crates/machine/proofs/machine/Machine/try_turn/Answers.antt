@@ -9,17 +9,17 @@ returns-in_default-clause-after g c =
     let m = state g.M.Memory.at g.B.Book.kind g.B.Book.model c.args.self.now in
     not_tried m c.args.warp c.args.line c.in_default.ensures.value
 
-pub returns-in-Lost-clause-after : goal.returns-in-Lost-clause-after
-returns-in-Lost-clause-after g c =
+pub returns-in-Gone-clause-after : goal.returns-in-Gone-clause-after
+returns-in-Gone-clause-after g c =
     let m = state g.M.Memory.at g.B.Book.kind g.B.Book.model c.args.self.now in
     let w = c.args.warp in
     let line = c.args.line in
     let access = c.in-Some.access in
     c.withdraw_and_settle.ensures.after
-    ∙ tried_lost m w line access c.in-Lost.cause c.in-Lost.next
+    ∙ tried_lost m w line access c.in-Gone.cause c.in-Gone.next
     ∙ try_by m w line access _ c.in-Some.ensures.value
-    (verdict_here m w line access _ _ _ _ c.meet.ensures.access c.meet.ensures.line_state
-    c.meet.ensures.time c.in-Lost.ensures.value)
+    (verdict_here m w line access _ _ _ _ c.meet.ensures.access c.meet.ensures.line
+    c.meet.ensures.time c.in-Gone.ensures.value)
 
 pub returns-in-GoOn-clause-after : goal.returns-in-GoOn-clause-after
 returns-in-GoOn-clause-after g c =
@@ -30,7 +30,7 @@ returns-in-GoOn-clause-after g c =
     c.serve_waiting.ensures.after
     ∙ tried_on m w line access
     ∙ try_by m w line access _ c.in-Some.ensures.value
-    (verdict_here m w line access _ _ _ _ c.meet.ensures.access c.meet.ensures.line_state
+    (verdict_here m w line access _ _ _ _ c.meet.ensures.access c.meet.ensures.line
     c.meet.ensures.time c.in-GoOn.ensures.value)
 
 pub returns-in-OwnLine-clause-after : goal.returns-in-OwnLine-clause-after
@@ -42,10 +42,10 @@ returns-in-OwnLine-clause-after g c =
     ⊎_elim
     (λ is. tried_own m w line access
     ∙ try_by m w line access _ c.in-Some.ensures.value
-    (verdict_here m w line access _ _ _ _ c.meet.ensures.access c.meet.ensures.line_state
+    (verdict_here m w line access _ _ _ _ c.meet.ensures.access c.meet.ensures.line
     c.meet.ensures.time (sym is ∙ c.retried.ensures.value)))
     (λ is. tried_again m w line access
     ∙ try_by m w line access _ c.in-Some.ensures.value
-    (verdict_here m w line access _ _ _ _ c.meet.ensures.access c.meet.ensures.line_state
+    (verdict_here m w line access _ _ _ _ c.meet.ensures.access c.meet.ensures.line
     c.meet.ensures.time (sym is ∙ c.retried.ensures.value)))
     c.in-OwnLine.is

@@ -36,12 +36,10 @@ slot_holding line e = record { occupant = Some (record { line = line; entry = e 
 
 -- Whether the line of a slot, if it has one, is a given line, or the line of another slot.
 abbrev pub is_line : Option ℕ → ℕ → Bool
-is_line None line = false
-is_line (Some held) line = held == line
+is_line held line = option_map_or (λ other. other == line) held false
 
 abbrev pub same_line : Option ℕ → Option ℕ → Bool
-same_line None other = false
-same_line (Some line) other = is_line other line
+same_line held other = option_map_or (is_line other) held false
 
 -- The line in a slot, and its entry. An empty slot has the entry of a line that no call has named.
 abbrev pub occupant_line : Option Occupant → Option ℕ

@@ -1,5 +1,5 @@
 -- The filter: the stamps of many lines in few entries, four ways of 64.
-use Rattle.std.specs.Prelude.{◌≡◌, ℕ, Bool, true, ◌&&◌, nat_lt, ◌/◌, ◌%◌, ◌<◌, cond, List, [], ◌∷◌}
+use Rattle.std.specs.Prelude.{◌≡◌, ℕ, Bool, nat_lt, ◌/◌, ◌%◌, ◌<◌, cond, List, [], ◌∷◌}
 use Rattle.std.specs.Prelude.{length, get_or, ◌==◌, bit_xor, slice_index, slice_index_or, slice_set}
 use Rattle.std.specs.List.{list_all}
 use Rattle.book.specs.Entries.{no_stamps, later_stamps, earlier_stamps}

@@ -1,8 +1,8 @@
 -- The exact book keeps the laws of a book.
 use Rattle.std.specs.Prelude.{unwrap_or}
-use Rattle.std.specs.Prelude.{◌≡◌, ℕ, zero, suc, ◌+◌, ◌<◌, ◌≤◌, max, Bool, true, false, not, ◌&&◌}
-use Rattle.std.specs.Prelude.{length, replicate, Some, None, Option, ◌==◌, ◌≢◌, nat_lt}
-use Rattle.std.specs.Prelude.{slice_index_or, slice_set}
+use Rattle.std.specs.Prelude.{◌≡◌, ℕ, ◌+◌, ◌<◌, ◌≤◌, max, Bool, true, false, ◌&&◌}
+use Rattle.std.specs.Prelude.{length, ◌≢◌, nat_lt}
+use Rattle.std.specs.Prelude.{slice_set}
 use Rattle.std.proofs.Common.{⊎_elim, sym, ◌∙◌, length-set, get_or-set_same, get_or-set_other}
 use Rattle.std.proofs.Math.Path.{refl, ap, subst}
 use native.Mathlib.Omega.{arith}

@@ -1,4 +1,5 @@
 -- No book has earlier stamps than the exact one.
+use Rattle.std.specs.Prelude.{unwrap_or}
 use Rattle.std.proofs.Common.{◌≡◌, ℕ, ◌+◌, ◌<◌, ◌≤◌, max, Bool, true, false, cond, not, ◌&&◌, eqb}
 use Rattle.std.proofs.Common.{ltb, leb, List, [], ◌∷◌, length, Ok, Err, sym, refl, ap, ◌∙◌, subst}
 use Rattle.std.proofs.Common.{arith}
@@ -9,7 +10,7 @@ use Rattle.book.specs.Time.{earlier}
 use Rattle.book.specs.Meaning.{Kind, Keeps, IsNew, StampsGrow, can_note, is_reserved}
 use Rattle.book.specs.Entries.{untouched_entry, entry_after_read, entry_after_reserve}
 use Rattle.book.specs.Entries.{entry_after_add, entry_after_release}
-use Rattle.book.specs.Entries.{entry_stores, entry_owner, warp_or_first}
+use Rattle.book.specs.Entries.{entry_stores, entry_owner}
 use Rattle.book.specs.Exact.{Exact, exact, exact_new, entry_at, with_entry}
 use Rattle.book.specs.Earliest.{is_granted, state_after_granted, state_after_call, both_after_call}
 use Rattle.book.specs.Earliest.{both_after_calls, IsEarliest}
@@ -93,9 +94,9 @@ module _ (k : Kind) (keeps : Keeps k) where
         → P (entry_stores (entry_at e line))
     same_count line lt P h = subst P (sym (f.counts line lt)) h
 
-    too : (call : BookCall) → is_granted k s call ≡ true → is_granted exact e call ≡ true
-    too (Note line t) can = can
-    too (Reserve line t) can =
+    granted_too : (call : BookCall) → is_granted k s call ≡ true → is_granted exact e call ≡ true
+    granted_too (Note line t) can = can
+    granted_too (Reserve line t) can =
         let parts = and_parts (can_note k s line t) (not (is_reserved k s line) && k.has_slot s line) can in
         let lt : line < line_limit = line_in_range line _ parts.0 in
         and_from (can_note exact e line t) (not (is_reserved exact e line) && exact.has_slot e line) parts.0
@@ -103,16 +104,16 @@ module _ (k : Kind) (keeps : Keeps k) where
         (same_count line lt (λ m. not (not (eqb m 0)) ≡ true)
         (and_parts (not (is_reserved k s line)) (k.has_slot s line) parts.1).0)
         (lt-ltb line line_limit lt))
-    too (Add line) can =
+    granted_too (Add line) can =
         let lt : line < line_limit = line_in_range line _ can in
         same_count line lt (λ m. (ltb line line_limit && (not (eqb m 0) && ltb m log_limit)) ≡ true) can
-    too (Release line) can = can
+    granted_too (Release line) can = can
 
     granted_step : (call : BookCall) → is_granted k s call ≡ true → Follows (state_after_granted k s call) (state_after_granted exact e call)
     granted_step (Note line t) can =
         let lt : line < line_limit = line_in_range line _ can in
         let there = keeps.notes s f.good line t can in
-        let here = exact_keeps.notes e f.fine line t (too (Note line t) can) in
+        let here = exact_keeps.notes e f.fine line t (granted_too (Note line t) can) in
         let grows = there.1.grows in
         let a = f.stamps line lt in
         let b = grows.stamp_grows line lt in
@@ -125,7 +126,7 @@ module _ (k : Kind) (keeps : Keeps k) where
     granted_step (Reserve line t) can =
         let lt : line < line_limit = line_in_range line _ (and_parts _ _ can).0 in
         let there = keeps.reserves s f.good line t can in
-        let here = exact_keeps.reserves e f.fine line t (too (Reserve line t) can) in
+        let here = exact_keeps.reserves e f.fine line t (granted_too (Reserve line t) can) in
         let grows = there.1.grows in
         let a = f.stamps line lt in
         let b = grows.stamp_grows line lt in
@@ -139,14 +140,14 @@ module _ (k : Kind) (keeps : Keeps k) where
     granted_step (Add line) can =
         let lt : line < line_limit = line_in_range line _ can in
         let there = keeps.adds s f.good line can in
-        let here = exact_keeps.adds e f.fine line (too (Add line) can) in
+        let here = exact_keeps.adds e f.fine line (granted_too (Add line) can) in
         let grows = there.1.grows in
         let a = f.stamps line lt in
         let b = grows.stamp_grows line lt in
         follows_with s (k.add s line) e f line lt (entry_after_add (entry_at e line)) 0 there.0 here.0 grows here.1.grows
         (omega arith) (omega arith)
         (not_earlier_chain _ (k.read_mark s line) _ (f.marks line lt) (grows.mark_grows line lt))
-        (hold_stores-hold_of (warp_or_first (entry_owner (entry_at e line))) _ ∙ ap (λ m. m + 1) (f.counts line lt)
+        (hold_stores-hold_of (unwrap_or (entry_owner (entry_at e line)) 0) _ ∙ ap (λ m. m + 1) (f.counts line lt)
         ∙ sym there.1.one_more) (λ n l ne. (there.1.stays n l ne).same_stores)
     granted_step (Release line) can =
         let lt : line < line_limit = ltb-true line line_limit can in
@@ -172,7 +173,7 @@ module _ (k : Kind) (keeps : Keeps k) where
       by true can =
           subst (λ e. Follows (state_after_granted k both.0 call) e)
           (sym (cond-true (is_granted exact both.1 call) (state_after_granted exact both.1 call) both.1
-          (too both.0 both.1 f call can)))
+          (granted_too both.0 both.1 f call can)))
           (granted_step both.0 both.1 f call can)
       by false can = f
 
@@ -215,7 +216,7 @@ module _ (k : Kind) (keeps : Keeps k) where
         stamps = f.stamps;
         marks = f.marks;
         latest = no_later both.0 both.1 f;
-        grants_too = too both.0 both.1 f;
+        grants_too = granted_too both.0 both.1 f;
       }
 
 -- What a book answers says whether both get the call.

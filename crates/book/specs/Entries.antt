@@ -1,5 +1,6 @@
 -- What a book keeps of a line, and what each call does to it.
-use Rattle.std.specs.Prelude.{ℕ, zero, suc, ◌+◌, min, max, cond, Some, None, Option}
+use Rattle.std.specs.Prelude.{ℕ, zero, suc, ◌+◌, min, max, cond, Some, None, Option, unwrap_or}
+use Rattle.std.specs.Option.{option_map, option_map_or}
 use Rattle.std.proofs.Math.Nat.{zero-lt-suc}
 use Rattle.book.specs.Time.{Time, earlier}
 use Rattle.book.specs.declared.entry.Stamps.{Stamps}
@@ -40,12 +41,10 @@ free_entry stamps = record { stamps = stamps; hold = None }
 
 -- The number of stores that hold a line, and their warp, which owns the line.
 abbrev pub hold_stores : Option Hold → ℕ
-hold_stores None = 0
-hold_stores (Some hold) = hold.stores
+hold_stores hold = option_map_or (λ h. h.stores) hold 0
 
 abbrev pub hold_owner : Option Hold → Option ℕ
-hold_owner None = None
-hold_owner (Some hold) = Some hold.warp
+hold_owner = option_map (λ hold. hold.warp)
 
 abbrev pub entry_stores : Entry → ℕ
 entry_stores e = hold_stores e.hold
@@ -58,17 +57,13 @@ abbrev pub hold_of : ℕ → ℕ → Option Hold
 hold_of warp zero = None
 hold_of warp (suc n) = Some (record { warp = warp; stores = suc n; some = zero-lt-suc n })
 
-abbrev pub warp_or_first : Option ℕ → ℕ
-warp_or_first None = 0
-warp_or_first (Some warp) = warp
-
 -- A line that a warp reserves, its write stamp raised to a stamp; a line with another number of
 -- stores.
 abbrev pub reserved_entry : Entry → ℕ → ℕ → Entry
 reserved_entry e warp stamp = record { stamps = later_stamps e.stamps (write_stamps stamp); hold = hold_of warp 1 }
 
 abbrev pub entry_with_stores : Entry → ℕ → Entry
-entry_with_stores e stores = record { stamps = e.stamps; hold = hold_of (warp_or_first (entry_owner e)) stores }
+entry_with_stores e stores = record { stamps = e.stamps; hold = hold_of (unwrap_or (entry_owner e) 0) stores }
 
 -- A line after each call. A read raises its read mark. A reservation gives it to the time's warp,
 -- and a transaction whose stamp is not later comes too late from then on. An add counts one more

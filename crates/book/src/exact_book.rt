@@ -56,7 +56,7 @@ impl ExactBook {
 
 impl Book for ExactBook {
     ghost use Rattle.book.specs.Exact.{exact};
-    ghost use Rattle.book.specs.ExactState.{exact_state, exact_is_sound};
+    ghost use Rattle.book.specs.ExactState.{exact_state};
     ghost use Rattle.book.specs.Lemmas.ExactKeeps.{exact_keeps};
 
     ghost kind = { exact };
@@ -65,7 +65,7 @@ impl Book for ExactBook {
 
     ghost keeps = { exact_keeps };
 
-    ghost good = { exact_is_sound };
+    ghost good = { λ book. book.sound };
 
     fn write_stamp(&self, line: u32) -> u32 {
         self.entry(line).stamps.write

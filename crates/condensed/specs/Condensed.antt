@@ -36,12 +36,10 @@ slot_holding line e = record { occupant = Some (record { line = line; entry = e 
 
 -- Whether the line of a slot, if it has one, is a given line, or the line of another slot.
 abbrev pub is_line : Option ℕ → ℕ → Bool
-is_line None line = false
-is_line (Some held) line = held == line
+is_line held line = option_map_or (λ other. other == line) held false
 
 abbrev pub same_line : Option ℕ → Option ℕ → Bool
-same_line None other = false
-same_line (Some line) other = is_line other line
+same_line held other = option_map_or (is_line other) held false
 
 -- The line in a slot, and its entry. An empty slot has the entry of a line that no call has named.
 abbrev pub occupant_line : Option Occupant → Option ℕ
@@ -82,12 +80,12 @@ abbrev pub slot_or_choice : List Slot → Option ℕ → Option ℕ
 slot_or_choice slots inside = option_or inside (choice_of (map slot_key slots))
 
 abbrev pub slot_for : List Slot → ℕ → Option ℕ
-slot_for slots line = option_or (slot_of slots line) (choice_of (map slot_key slots))
+slot_for slots line = slot_or_choice slots (slot_of slots line)
 
 -- The entry of a line is that of its slot. A line in no slot has the stamps of the filter.
 abbrev pub entry_from : List Slot → List (List Stamps) → ℕ → Option ℕ → Entry
 entry_from slots filter line None = free_entry (filter_stamps filter (indices_of line))
-entry_from slots filter line (Some place) = slot_entry (get_or slots place empty_slot)
+entry_from slots filter line (Some index) = slot_entry (get_or slots index empty_slot)
 
 -- A line takes a slot: another line that was in it is evicted, and raises its entries of the filter
 -- to its stamps.
@@ -110,21 +108,21 @@ module _ (s : Condensed) where
 
   -- The state after the line of a slot is evicted for another.
   abbrev pub after_eviction : ℕ → ℕ → Condensed
-  after_eviction line place =
+  after_eviction line index =
       record {
         slots = s.slots;
-        filter = filter_after_eviction s.filter (slice_index_or s.slots place empty_slot) line;
+        filter = filter_after_eviction s.filter (slice_index_or s.slots index empty_slot) line;
         latest = s.latest;
       }
 
   -- A line and its entry are written into a slot, and the latest stamp is raised if it is earlier.
   abbrev pub slots_with : ℕ → ℕ → Entry → List Slot
-  slots_with line place e = slice_set s.slots place (slot_holding line e)
+  slots_with line index e = slice_set s.slots index (slot_holding line e)
 
   abbrev pub with_slot : ℕ → ℕ → Entry → ℕ → Condensed
-  with_slot line place e stamp =
+  with_slot line index e stamp =
       record {
-        slots = slots_with line place e;
+        slots = slots_with line index e;
         filter = s.filter;
         latest = max s.latest stamp;
       }
@@ -138,20 +136,20 @@ module _ (s : Condensed) (line : ℕ) where
         filter = filter_raised_to s.filter (indices_of line) (read_stamps t);
         latest = max s.latest t.0;
       }
-  after_note t (Some place) =
-      with_slot s line place (entry_after_read (slot_entry (get_or s.slots place empty_slot)) t) t.0
+  after_note t (Some index) =
+      with_slot s line index (entry_after_read (slot_entry (get_or s.slots index empty_slot)) t) t.0
 
   -- A reserved line starts in its slot from its entry before the call.
   abbrev pub after_reserve : Time → Option ℕ → Condensed
   after_reserve t None = s
-  after_reserve t (Some place) =
-      with_slot (after_eviction s line place) line place (entry_after_reserve (line_entry s line) t) (t.0 + 1)
+  after_reserve t (Some index) =
+      with_slot (after_eviction s line index) line index (entry_after_reserve (line_entry s line) t) (t.0 + 1)
 
   -- Other calls change the entry of the line in its slot, and nothing else.
   abbrev pub after_change : (Entry → Entry) → Option ℕ → Condensed
   after_change change None = s
-  after_change change (Some place) =
-      with_slot s line place (change (slot_entry (get_or s.slots place empty_slot))) 0
+  after_change change (Some index) =
+      with_slot s line index (change (slot_entry (get_or s.slots index empty_slot))) 0
 
 -- Neither stamp is later than a given one.
 abbrev pub IsBounded : Stamps → ℕ → Type 0

@@ -1,15 +1,11 @@
 -- The state of a `CondensedBook`: its fields.
 use Rattle.std.specs.Prelude.{ℕ}
-use Rattle.condensed.specs.Condensed.{Condensed, IsSound, condensed_of}
+use Rattle.condensed.specs.Condensed.{Condensed, condensed_of}
 use Rattle.condensed.specs.declared.slot.SlotIndex.{SlotIndex}
 use Rattle.condensed.specs.declared.condensed_book.CondensedBook.{CondensedBook}
 
 abbrev pub condensed_state : CondensedBook → Condensed
 condensed_state b = condensed_of b.slots b.filter b.latest
-
--- The state of every value is sound.
-pub condensed_is_sound : (b : CondensedBook) → IsSound (condensed_state b)
-condensed_is_sound b = b.sound
 
 -- The index of a slot.
 abbrev pub slot_index : SlotIndex → ℕ

@@ -1,6 +1,7 @@
 -- The filter: the stamps of many lines in few entries, four ways of 64.
-use Rattle.std.specs.Prelude.{◌≡◌, ℕ, Bool, true, ◌&&◌, nat_lt, ◌/◌, ◌%◌, ◌<◌, cond, List, [], ◌∷◌}
+use Rattle.std.specs.Prelude.{◌≡◌, ℕ, Bool, nat_lt, ◌/◌, ◌%◌, ◌<◌, cond, List, [], ◌∷◌}
 use Rattle.std.specs.Prelude.{length, get_or, ◌==◌, bit_xor, slice_index, slice_index_or, slice_set}
+use Rattle.std.specs.List.{list_all}
 use Rattle.book.specs.Entries.{no_stamps, later_stamps, earlier_stamps}
 use Rattle.book.specs.declared.entry.Stamps.{Stamps}
 
@@ -12,8 +13,7 @@ index_by (number ∷ numbers) line = bit_xor (cond (line % 2 == 1) number 0) (in
 
 -- Whether all numbers are indices of a way.
 abbrev pub all_below_64 : List ℕ → Bool
-all_below_64 [] = true
-all_below_64 (x ∷ xs) = nat_lt x 64 && all_below_64 xs
+all_below_64 = list_all (λ number. nat_lt number 64)
 
 -- The numbers of each way.
 abbrev pub way_0 : List ℕ

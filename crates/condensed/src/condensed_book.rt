@@ -141,7 +141,7 @@ impl CondensedBook {
 
 impl Book for CondensedBook {
     ghost use Rattle.condensed.specs.Condensed.{condensed};
-    ghost use Rattle.condensed.specs.CondensedState.{condensed_state, condensed_is_sound};
+    ghost use Rattle.condensed.specs.CondensedState.{condensed_state};
     ghost use Rattle.condensed.specs.Lemmas.CondensedKeeps.{condensed_keeps};
 
     ghost kind = { condensed };
@@ -150,7 +150,7 @@ impl Book for CondensedBook {
 
     ghost keeps = { condensed_keeps };
 
-    ghost good = { condensed_is_sound };
+    ghost good = { λ book. book.sound };
 
     fn write_stamp(&self, line: u32) -> u32 {
         self.line_entry(line).stamps.write

@@ -1,5 +1,5 @@
 -- The letters of the operations.
-use Rattle.std.specs.Prelude.{◌≡◌, ℕ, cond, List, [], ◌∷◌, map, Some, None, Option, ◌==◌}
+use Rattle.std.specs.Prelude.{◌≡◌, ℕ, List, [], ◌∷◌, map, find, Some, Option, ◌==◌}
 use Rattle.protocol.specs.declared.call.Op.{Op}
 use Rattle.protocol.specs.declared.call.Op.TheVariants.{Begin, Load, Store, Commit, Drop, Fetch}
 
@@ -16,15 +16,10 @@ op_letter Fetch = 70
 abbrev pub ops_at : ℕ → ℕ → List Op
 ops_at line value = Begin ∷ Load line ∷ Store line value ∷ Commit ∷ Drop ∷ Fetch ∷ []
 
--- The first of some operations that has a letter.
-abbrev pub named_in : ℕ → List Op → Option Op
-named_in letter [] = None
-named_in letter (op ∷ rest) = cond (letter == op_letter op) (Some op) (named_in letter rest)
-
 -- The operation that a letter stands for. Only loads use the line, and only stores use the line and
 -- the value.
 abbrev pub op_named : ℕ → ℕ → ℕ → Option Op
-op_named letter line value = named_in letter (ops_at line value)
+op_named letter line value = find (λ op. letter == op_letter op) (ops_at line value)
 
 -- The letter of each operation stands for that operation.
 abbrev pub LettersNameBack : Type 0

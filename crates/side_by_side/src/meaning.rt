@@ -1,6 +1,6 @@
 //! The meanings of a book, checked on what it tells before and after a call.
 use crate::look::Look;
-use book::{BookCall, can_be};
+use book::{BookCall, is_valid_time};
 use protocol::limits::{LINES, STORES};
 
 /// A call that was made of a book, and whether the book granted it.
@@ -54,8 +54,8 @@ pub fn may(call: BookCall, look: &Look) -> bool {
         return false;
     }
     match call {
-        BookCall::Note { time, .. } => can_be(time),
-        BookCall::Reserve { time, .. } => can_be(time) && look.stores == 0 && look.state.has_slot,
+        BookCall::Note { time, .. } => is_valid_time(time),
+        BookCall::Reserve { time, .. } => is_valid_time(time) && look.stores == 0 && look.state.has_slot,
         BookCall::Add { .. } => look.stores > 0 && (look.stores as usize) < STORES,
         BookCall::Release { .. } => true,
     }

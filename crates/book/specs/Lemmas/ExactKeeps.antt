@@ -1,7 +1,8 @@
 -- The exact book keeps the laws of a book.
-use Rattle.std.specs.Prelude.{◌≡◌, ℕ, zero, suc, ◌+◌, ◌<◌, ◌≤◌, max, Bool, true, false, not, ◌&&◌}
-use Rattle.std.specs.Prelude.{length, replicate, Some, None, Option, ◌==◌, ◌≢◌, nat_lt}
-use Rattle.std.specs.Prelude.{slice_index_or, slice_set}
+use Rattle.std.specs.Prelude.{unwrap_or}
+use Rattle.std.specs.Prelude.{◌≡◌, ℕ, ◌+◌, ◌<◌, ◌≤◌, max, Bool, true, false, ◌&&◌}
+use Rattle.std.specs.Prelude.{length, ◌≢◌, nat_lt}
+use Rattle.std.specs.Prelude.{slice_set}
 use Rattle.std.proofs.Common.{⊎_elim, sym, ◌∙◌, length-set, get_or-set_same, get_or-set_other}
 use Rattle.std.proofs.Math.Path.{refl, ap, subst}
 use native.Mathlib.Omega.{arith}
@@ -14,7 +15,7 @@ use Rattle.book.specs.Meaning.{Keeps, IsNew, IsSoundLine, is_reserved, Notes, Re
 use Rattle.book.specs.Meaning.{Releases, StampsGrow, KeepsReservation}
 use Rattle.book.specs.Entries.{untouched_entry, read_stamps, write_stamps, entry_after_read}
 use Rattle.book.specs.Entries.{entry_after_reserve, entry_after_add, entry_after_release}
-use Rattle.book.specs.Entries.{entry_stores, entry_owner, warp_or_first}
+use Rattle.book.specs.Entries.{entry_stores, entry_owner}
 use Rattle.book.specs.Exact.{Exact, exact, exact_new, entry_at, with_entry, FitsWithin}
 use Rattle.book.specs.declared.entry.Entry.{Entry}
 use Rattle.book.specs.Lemmas.Times.{NoEarlier, no_earlier_than_itself, later_stamps_first}
@@ -170,7 +171,7 @@ module _ (s : Exact) (good : exact.Good s) where
           ),
           record {
             grows = stamps_grow_with line lt e 0 (no_earlier_than_itself old.stamps);
-            one_more = ap entry_stores here ∙ hold_stores-hold_of (warp_or_first (entry_owner old)) (entry_stores old + 1);
+            one_more = ap entry_stores here ∙ hold_stores-hold_of (unwrap_or (entry_owner old) 0) (entry_stores old + 1);
             same_owner = ap entry_owner here ∙ entry_owner-after_add old held;
             stays = λ n _ ne. other_reservations_stay line lt e 0 n ne;
             latest_bound = omega arith;

@@ -1,4 +1,5 @@
 -- An entry's hold: how many stores it counts, and its owner.
+use Rattle.std.specs.Prelude.{unwrap_or}
 use Rattle.std.specs.Prelude.{◌≡◌, ℕ, zero, suc, ◌+◌, ◌<◌, true, false, not, Some, None, Option}
 use Rattle.std.specs.Prelude.{◌==◌}
 use Rattle.std.proofs.Common.{sym, ◌∙◌}
@@ -8,7 +9,7 @@ use Rattle.std.proofs.Math.Nat.{zero-lt-suc}
 use native.Mathlib.Omega.{arith}
 use Rattle.std.proofs.lemmas.Bool.{not-true, not-false, eqb-true, eqb-false}
 use Rattle.book.specs.Entries.{hold_stores, hold_owner, entry_stores, entry_owner, entry_after_add}
-use Rattle.book.specs.Entries.{hold_of, warp_or_first}
+use Rattle.book.specs.Entries.{hold_of}
 use Rattle.book.specs.declared.entry.Hold.{Hold}
 use Rattle.book.specs.declared.entry.Entry.{Entry}
 
@@ -21,7 +22,7 @@ hold_stores-hold_of warp zero = refl
 hold_stores-hold_of warp (suc n) = refl
 
 -- A hold is determined by its warp and its number of stores, whatever the proof that it has some.
-pub hold_is_hold_of : (hold : Option Hold) → hold ≡ hold_of (warp_or_first (hold_owner hold)) (hold_stores hold)
+pub hold_is_hold_of : (hold : Option Hold) → hold ≡ hold_of (unwrap_or (hold_owner hold) 0) (hold_stores hold)
 hold_is_hold_of None = refl
 hold_is_hold_of (Some hold) = by hold.stores hold.some
   where
@@ -31,11 +32,11 @@ hold_is_hold_of (Some hold) = by hold.stores hold.some
         ap (λ p. Some (record { warp = hold.warp; stores = suc n; some = p })) (le_prop some (zero-lt-suc n))
 
 -- A line has an owner exactly while stores hold it.
-hold_owner-held : (h : Option Hold) → 0 < hold_stores h → hold_owner h ≡ Some (warp_or_first (hold_owner h))
+hold_owner-held : (h : Option Hold) → 0 < hold_stores h → hold_owner h ≡ Some (unwrap_or (hold_owner h) 0)
 hold_owner-held None some = absurd (omega arith)
 hold_owner-held (Some hold) some = refl
 
-pub reserved_has_owner : (e : Entry) → not (entry_stores e == 0) ≡ true → entry_owner e ≡ Some (warp_or_first (entry_owner e))
+pub reserved_has_owner : (e : Entry) → not (entry_stores e == 0) ≡ true → entry_owner e ≡ Some (unwrap_or (entry_owner e) 0)
 reserved_has_owner e h = hold_owner-held e.hold (positive_unless_zero (entry_stores e) h)
 
 pub hold_owner-free : (h : Option Hold) → hold_stores h ≡ 0 → hold_owner h ≡ None
@@ -55,4 +56,4 @@ hold_owner-one_more n w some = hold_owner-hold_of (n + 1) w (omega arith) ∙ sy
 
 pub entry_owner-after_add : (e : Entry) → 0 < entry_stores e → entry_owner (entry_after_add e) ≡ entry_owner e
 entry_owner-after_add e held =
-    hold_owner-one_more (entry_stores e) (warp_or_first (entry_owner e)) held ∙ ap hold_owner (sym (hold_is_hold_of e.hold))
+    hold_owner-one_more (entry_stores e) (unwrap_or (entry_owner e) 0) held ∙ ap hold_owner (sym (hold_is_hold_of e.hold))

@@ -1,4 +1,5 @@
 -- The condensed book keeps the laws of a book.
+use Rattle.std.specs.Prelude.{unwrap_or}
 use Rattle.std.specs.Prelude.{◌≡◌, ℕ, zero, suc, ◌+◌, ◌<◌, ◌≤◌, max, true, false, List, [], map}
 use Rattle.std.specs.Prelude.{length, get_or, replicate, is_some, Some, None, Option, ◌==◌, ◌≢◌}
 use Rattle.std.specs.Prelude.{nat_lt, slice_index_or}
@@ -13,7 +14,6 @@ use Rattle.book.specs.Meaning.{can_note}
 use Rattle.book.specs.Entries.{no_stamps, read_stamps, write_stamps, entry_after_read}
 use Rattle.book.specs.Entries.{entry_after_reserve, entry_after_add}
 use Rattle.book.specs.Entries.{entry_after_release, free_entry, entry_stores, entry_owner}
-use Rattle.book.specs.Entries.{warp_or_first}
 use Rattle.book.specs.Exact.{FitsWithin}
 use Rattle.condensed.specs.Filter.{indices_of, stamps_at, filter_stamps, filter_raised_to}
 use Rattle.std.specs.Option.{option_or}
@@ -257,7 +257,7 @@ module _ (s : Condensed) (sound : IsSound s) (line : ℕ) (lt : line < line_limi
             (w, r, (λ _. sound.slots_stamped i had)),
         record {
           grows = grows_by s after line kept (rises before is (no_earlier_than_itself was.stamps));
-          one_more = ap entry_stores is ∙ hold_stores-hold_of (warp_or_first (entry_owner was)) (entry_stores was + 1)
+          one_more = ap entry_stores is ∙ hold_stores-hold_of (unwrap_or (entry_owner was) 0) (entry_stores was + 1)
               ∙ sym (ap (λ x. entry_stores x + 1) before);
           same_owner = ap entry_owner is ∙ entry_owner-after_add was had ∙ sym (ap entry_owner before);
           stays = stays_by s after line kept;

@@ -50,7 +50,7 @@ use Rattle.rules.proofs.Invariant.{Invariant}
 use Rattle.rules.proofs.OneWarp.{Room, serving_keeps, own_serving_keeps, waiting_keeps, phase_keeps}
 use Rattle.rules.proofs.OneWarp.{ends_keep}
 use Rattle.rules.proofs.OneWarp.{commits_keep, begin_keeps}
-use Rattle.rules.proofs.Tries.{has_transaction, ends_keeps}
+use Rattle.rules.proofs.Retries.{has_transaction, ends_keeps}
 
 -- What a call that is not refused says of its warp and its numbers.
 neither_fault : (a b : Option Fault) → option_or a b ≡ None → (a ≡ None) × (b ≡ None)

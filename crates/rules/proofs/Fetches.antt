@@ -293,16 +293,16 @@ module _ (events : List Event) where
 
     module _ (start : Ledger) where
       -- What is known in the middle of the retries of a call.
-      abbrev ledger_after_tries : AfterTries k → Ledger
-      ledger_after_tries st = fold ledger_after_settled start st.settled
+      abbrev ledger_after_retries : AfterTries k → Ledger
+      ledger_after_retries st = fold ledger_after_settled start st.settled
 
       abbrev KnownIn : AfterTries k → Type 0
-      KnownIn st = Known st.machine (ledger_after_tries st).current (last_settled_request st.settled)
+      KnownIn st = Known st.machine (ledger_after_retries st).current (last_settled_request st.settled)
 
       settling_known :
           (st : AfterTries k) (m : Machine k) (w line : ℕ) (access : Access) (outcome : Outcome)
           → KnownIn st → ((v : ℕ) → (warp_row_of m v).phase ≡ (warp_row_of st.machine v).phase)
-          → Has ((ledger_after_tries st).current w) → Fits access outcome
+          → Has ((ledger_after_retries st).current w) → Fits access outcome
           → KnownIn
           (record
           { machine = after_settling m w outcome; settled = st.settled ++ settled_request w line access outcome ∷ [] })
@@ -312,21 +312,21 @@ module _ (events : List Event) where
           Known (after_settling m w outcome) l.current
           (last_settled_request (st.settled ++ settled_request w line access outcome ∷ [])))
           (sym (fold_push ledger_after_settled start st.settled (settled_request w line access outcome)))
-          (moves st.machine (after_settling m w outcome) (ledger_after_tries st).current
-          (ledger_after_outcome (ledger_after_tries st) w line access outcome).current (last_settled_request st.settled)
+          (moves st.machine (after_settling m w outcome) (ledger_after_retries st).current
+          (ledger_after_outcome (ledger_after_retries st) w line access outcome).current (last_settled_request st.settled)
           (last_settled_request (st.settled ++ settled_request w line access outcome ∷ [])) w known
           (λ v n. settling_keeps_phases m w outcome v n ∙ same v)
-          (λ v n. outcome_keeps_others (ledger_after_tries st) w line access outcome v n)
+          (λ v n. outcome_keeps_others (ledger_after_retries st) w line access outcome v n)
           (λ v n. last_there st.settled (settled_request w line access outcome) v n)
           (settling_phase m w outcome
-          (PhaseAgrees w ((ledger_after_outcome (ledger_after_tries st) w line access outcome).current w)
+          (PhaseAgrees w ((ledger_after_outcome (ledger_after_retries st) w line access outcome).current w)
           (last_settled_request (st.settled ++ settled_request w line access outcome ∷ []) w)) tt
           (inl
           (record {
             request = settled_request w line access outcome;
             settled_there = last_here st.settled (settled_request w line access outcome);
             its_outcome = refl;
-            joined = outcome_joined (ledger_after_tries st) w line access outcome fits has;
+            joined = outcome_joined (ledger_after_retries st) w line access outcome fits has;
           }))))
 
       -- Serving a request changes no phase.
@@ -345,7 +345,7 @@ module _ (events : List Event) where
 
       tried_known :
           (st : AfterTries k) (w line : ℕ) (access : Access) (v : Verdict) → KnownIn st
-          → Has ((ledger_after_tries st).current w) → KnownIn (after_try st w line access v)
+          → Has ((ledger_after_retries st).current w) → KnownIn (after_try st w line access v)
       unfolding after_try
       tried_known st w line access OwnLine known has = known
       tried_known st w line access (VerdictGone cause next) known has =
@@ -365,7 +365,7 @@ module _ (events : List Event) where
       retried_known st w line (Some access) e known =
           tried_known st w line access (retried access (line_state k st.machine.book line) (time_of st.machine w))
           known
-          (subst (PhaseAgrees w ((ledger_after_tries st).current w) (last_settled_request st.settled w))
+          (subst (PhaseAgrees w ((ledger_after_retries st).current w) (last_settled_request st.settled w))
           (waits_if (warp_row_of st.machine w).phase (access_at (request_of st.machine.queue w) line) access e)
           (known w))
 

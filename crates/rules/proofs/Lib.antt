@@ -10,7 +10,7 @@ mod Verdicts
 mod Logs
 mod Invariant
 mod OneWarp
-mod Tries
+mod Retries
 mod Calls
 pub mod AccountsLaw
 pub mod Explanation

@@ -1,7 +1,6 @@
 -- The access steps: what happens to a load or a store at its line. The first step that applies
 -- decides. Each step is defined after the steps that follow it, so read this file from its end.
 use Rattle.std.specs.Prelude.{ℕ, ◌+◌, max, Bool, false, cond, Some, None, Option, ◌==◌, nat_lt}
-use Rattle.protocol.specs.declared.answer.Cause.{Cause}
 use Rattle.protocol.specs.declared.answer.Cause.TheVariants.{WrittenLater, ReadLater, QueueFull}
 use Rattle.protocol.specs.declared.answer.Cause.TheVariants.{NoSlot}
 use Rattle.book.specs.Meaning.{Kind}

@@ -26,19 +26,19 @@ pub record Sample : Type 0 where
   pub values : List ℕ
   pub calls : List Call
 
--- The run.
+-- The run of a sample.
 abbrev pub sample_run : Sample → Run exact
 sample_run s = exact_run s.stamps s.values s.calls
 
--- The ledger of the run.
+-- The ledger of its run.
 abbrev pub sample_ledger : Sample → Ledger
 sample_ledger s = ledger_of (sample_run s).events
 
--- The transactions that the run commits.
+-- The transactions that its run commits.
 abbrev pub sample_commits : Sample → List Transaction
 sample_commits s = (sample_ledger s).committed
 
--- Two transactions, between an initial and a last memory, conflict. The first is earlier in logical
+-- Two transactions, between an initial and a final memory, conflict. The first is earlier in logical
 -- time, and the accounts are equal only if it is executed first.
 pub record TransactionsAgreeInOneOrder (initial : Lines) (txs : List Transaction) (final : Lines) (a b : ℕ) : Type 0 where
   pub conflict : Conflict txs a b

@@ -1,5 +1,5 @@
 -- A new machine, from a memory, a book and the first stamp of each warp.
-use Rattle.std.specs.Prelude.{ℕ, cond, ◌&&◌, List, [], ◌∷◌, map, length, find, Some, None, Option}
+use Rattle.std.specs.Prelude.{ℕ, ◌&&◌, List, [], map, length, find, Some, None, Option}
 use Rattle.std.specs.Prelude.{◌==◌, nat_le, nat_lt}
 use Rattle.std.specs.Option.{option_map, option_or}
 use Rattle.protocol.specs.Faults.{fault_in_call}

@@ -3,7 +3,8 @@ use Rattle.std.proofs.Common.{◌≡◌, ℕ, ◌<◌, List, map, length, get_or
 use Rattle.std.proofs.Math.ListN.{get_or-map}
 use Rattle.std.proofs.lemmas.List.{get_or_default, map-set, length-map, length-take-le}
 use Rattle.rules.specs.State.{WarpRow, warp_row_at}
-use Rattle.machine.specs.Rows.{store_entry, warp_row_in, no_row}
+use Rattle.machine.specs.Logs.{store_entry}
+use Rattle.machine.specs.Rows.{warp_row_in, no_row}
 use Rattle.machine.specs.declared.row.Row.{Row}
 
 pub warp_row_row : (rows : List Row) (w : ℕ) → warp_row_at (map warp_row_in rows) w ≡ warp_row_in (get_or rows w no_row)

@@ -5,7 +5,7 @@ use Rattle.rules.specs.Steps.{Step}
 use Rattle.rules.specs.Refusals.{fault_of}
 use Rattle.machine.specs.Meaning.{state, policy_of}
 use Rattle.machine.specs.CallParts.{as_result}
-use Rattle.machine.proofs.Granted.{granted_step, refused_stays, refused_says, refused_at}
+use Rattle.machine.proofs.CheckedCalls.{granted_step, refused_stays, refused_says, refused_at}
 use Rattle.machine.proofs.machine.Machine.call.Goals as goal
 
 pub returns-in_err-check : goal.returns-in_err-check
@@ -26,8 +26,8 @@ returns g c =
     let m = state g.M.Memory.at g.B.Book.kind g.B.Book.model c.args.self.now in
     let is = granted_step (policy_of g.B.Book.kind c.args.self.now) m c.args.call c.in_ok-check.ensures in
     record {
-      after = c.grant.ensures.after ∙ ap (λ (s : Step _). s.machine) is;
-      answer = c.grant.ensures.answer ∙ ap (λ (s : Step _). s.answer) is;
+      after = c.accept.ensures.after ∙ ap (λ (s : Step _). s.machine) is;
+      answer = c.accept.ensures.answer ∙ ap (λ (s : Step _). s.answer) is;
       unchanged = tt;
-      loan = c.grant.ensures.loan;
+      loan = c.accept.ensures.loan;
     }

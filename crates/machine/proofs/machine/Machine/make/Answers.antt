@@ -3,8 +3,8 @@ use Rattle.std.proofs.Common.{◌≡◌, map, take, refl, ap, ◌∙◌}
 use Rattle.rules.specs.State.{idle_row}
 use Rattle.rules.specs.Making.{first_warp_rows, making_fault}
 use Rattle.machine.specs.Warps.{warp_rows, queue_of}
-use Rattle.machine.proofs.Made.{made_with, made_without}
-use Rattle.machine.proofs.Served.{built}
+use Rattle.machine.proofs.FirstRows.{made_with, made_without}
+use Rattle.machine.proofs.ServeSteps.{built}
 use Rattle.machine.proofs.machine.Machine.make.Goals as goal
 use Rattle.machine.proofs.machine.Machine.make.Goals.{then-is_ok, else-is_ok}
 

@@ -5,7 +5,7 @@ use Rattle.rules.specs.Serving.{served_on_free_line}
 use Rattle.machine.specs.Phases.{highest_stamp, next_stamp, is_open}
 use Rattle.machine.specs.Warps.{has_room}
 use Rattle.machine.specs.Meaning.{state}
-use Rattle.machine.proofs.Withdrawn.{withdrawn_open, withdrawn_room, served_open, served_on_time, through}
+use Rattle.machine.proofs.Withdrawals.{withdrawn_open, withdrawn_room, served_open, served_on_time, through}
 use Rattle.machine.proofs.machine.Machine.serve_waiting.Goals as goal
 
 pub serve-outcome-requires-clause-open : goal.serve-outcome-requires-clause-open

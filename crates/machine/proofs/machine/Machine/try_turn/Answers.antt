@@ -1,7 +1,7 @@
 -- By what is pending, and by the verdict.
-use Rattle.std.proofs.Common.{sym, ap, ◌∙◌, ⊎_elim}
+use Rattle.std.proofs.Common.{sym, ◌∙◌, ⊎_elim}
 use Rattle.machine.specs.Meaning.{state}
-use Rattle.machine.proofs.Turning.{not_tried, try_by, tried_lost, tried_on, tried_own, tried_again, verdict_here}
+use Rattle.machine.proofs.Retries.{not_tried, try_by, tried_lost, tried_on, tried_own, tried_again, verdict_here}
 use Rattle.machine.proofs.machine.Machine.try_turn.Goals as goal
 
 pub returns-in_default-clause-after : goal.returns-in_default-clause-after
@@ -18,8 +18,8 @@ returns-in-Gone-clause-after g c =
     c.withdraw_and_settle.ensures.after
     ∙ tried_lost m w line access c.in-Gone.cause c.in-Gone.next
     ∙ try_by m w line access _ c.in-Some.ensures.value
-    (verdict_here m w line access _ _ _ _ c.meet.ensures.access c.meet.ensures.line
-    c.meet.ensures.time c.in-Gone.ensures.value)
+    (verdict_here m w line access _ _ _ _ c.encounter.ensures.access c.encounter.ensures.line
+    c.encounter.ensures.time c.in-Gone.ensures.value)
 
 pub returns-in-GoOn-clause-after : goal.returns-in-GoOn-clause-after
 returns-in-GoOn-clause-after g c =
@@ -30,8 +30,8 @@ returns-in-GoOn-clause-after g c =
     c.serve_waiting.ensures.after
     ∙ tried_on m w line access
     ∙ try_by m w line access _ c.in-Some.ensures.value
-    (verdict_here m w line access _ _ _ _ c.meet.ensures.access c.meet.ensures.line
-    c.meet.ensures.time c.in-GoOn.ensures.value)
+    (verdict_here m w line access _ _ _ _ c.encounter.ensures.access c.encounter.ensures.line
+    c.encounter.ensures.time c.in-GoOn.ensures.value)
 
 pub returns-in-OwnLine-clause-after : goal.returns-in-OwnLine-clause-after
 returns-in-OwnLine-clause-after g c =
@@ -42,10 +42,10 @@ returns-in-OwnLine-clause-after g c =
     ⊎_elim
     (λ is. tried_own m w line access
     ∙ try_by m w line access _ c.in-Some.ensures.value
-    (verdict_here m w line access _ _ _ _ c.meet.ensures.access c.meet.ensures.line
-    c.meet.ensures.time (sym is ∙ c.retried.ensures.value)))
+    (verdict_here m w line access _ _ _ _ c.encounter.ensures.access c.encounter.ensures.line
+    c.encounter.ensures.time (sym is ∙ c.retried.ensures.value)))
     (λ is. tried_again m w line access
     ∙ try_by m w line access _ c.in-Some.ensures.value
-    (verdict_here m w line access _ _ _ _ c.meet.ensures.access c.meet.ensures.line
-    c.meet.ensures.time (sym is ∙ c.retried.ensures.value)))
+    (verdict_here m w line access _ _ _ _ c.encounter.ensures.access c.encounter.ensures.line
+    c.encounter.ensures.time (sym is ∙ c.retried.ensures.value)))
     c.in-OwnLine.is

@@ -3,7 +3,7 @@ use Rattle.std.proofs.Common.{fold, sym, ap, ◌∙◌, arith}
 use Rattle.std.proofs.lemmas.List.{take_all}
 use Rattle.machine.specs.Meaning.{state, policy_of}
 use Rattle.machine.specs.CallParts.{machine_after_turn}
-use Rattle.machine.proofs.Turning.{wake_is}
+use Rattle.machine.proofs.Retries.{wake_is}
 use Rattle.machine.proofs.machine.Machine.try_turns.Goals as goal
 
 pub returns-clause-after : goal.returns-clause-after

@@ -1,7 +1,7 @@
 -- By whether the queue is full for the line.
 use Rattle.std.proofs.Common.{true, false}
 use Rattle.machine.specs.Meaning.{state, policy_of}
-use Rattle.machine.proofs.Accessed.{by_room, lost_for_room, waiting_now}
+use Rattle.machine.proofs.AccessSteps.{by_room, lost_for_room, waiting_now}
 use Rattle.machine.proofs.machine.Machine.wait_or_end.Goals as goal
 
 pub returns-then-is_full : goal.returns-then-is_full

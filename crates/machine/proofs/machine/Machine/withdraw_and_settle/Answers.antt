@@ -4,7 +4,7 @@ use Rattle.rules.specs.State.{Machine, warp_row_of}
 use Rattle.machine.specs.Phases.{is_open}
 use Rattle.machine.specs.Meaning.{state}
 use Rattle.machine.specs.CallParts.{with_outcome_set}
-use Rattle.machine.proofs.Withdrawn.{comes_out_is, withdrawn_open}
+use Rattle.machine.proofs.Withdrawals.{comes_out_is, withdrawn_open}
 use Rattle.machine.proofs.machine.Machine.withdraw_and_settle.Goals as goal
 
 pub settle-requires-clause-open : goal.settle-requires-clause-open

@@ -3,7 +3,7 @@ use Rattle.std.proofs.Common.{eqb, ◌∙◌, rules, tests}
 use Rattle.std.proofs.lemmas.Iterator.{YieldsList-from_slice}
 use Rattle.std.proofs.lemmas.Iterator.Search.{find_from_yields_List}
 use Rattle.rules.specs.declared.state.Request.{Request}
-use Rattle.machine.proofs.Words.{request_found}
+use Rattle.machine.proofs.Searches.{find-request_of}
 use Rattle.machine.proofs.queue.Queue.request_of.Goals as goal
 
 pub returns : goal.returns
@@ -12,4 +12,4 @@ returns c =
     c.copied.ensures
     ∙ find_from_yields_List (λ (r : Request). eqb r.warp c.args.warp) _ _ c.find.result c.find.ensures.ran
     (YieldsList-from_slice requests cc) (λ x b q k. search (rules, tests))
-    ∙ request_found requests c.args.warp
+    ∙ find-request_of requests c.args.warp

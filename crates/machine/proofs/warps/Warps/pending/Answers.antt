@@ -1,7 +1,7 @@
 -- What the warp's request asks for has room, and its stamp is not past the end of the clock.
 use Rattle.std.proofs.Common.{ap, sym}
 use Rattle.rules.specs.State.{is_waiting}
-use Rattle.machine.proofs.Fitting.{pending_room, waiting_on_time}
+use Rattle.machine.proofs.SoundQueue.{pending_room, waiting_on_time}
 use Rattle.machine.proofs.warps.Warps.pending.Goals as goal
 
 pub returns-clause-room : goal.returns-clause-room

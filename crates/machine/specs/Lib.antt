@@ -1,4 +1,4 @@
-pub mod Queue
+pub mod Requests
 pub mod Logs
 pub mod Phases
 pub mod Rows

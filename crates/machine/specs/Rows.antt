@@ -1,17 +1,11 @@
--- What logs and rows mean.
-use Rattle.std.specs.Prelude.{List, replicate, refl}
+-- What rows mean.
+use Rattle.std.specs.Prelude.{replicate, refl}
 use Rattle.std.proofs.Common.{lit<, lit≤}
-use Rattle.rules.specs.Logs.{LogEntry}
 use Rattle.rules.specs.State.{WarpRow}
 use Rattle.rules.specs.declared.state.Phase.TheVariants.{Idle}
 use Rattle.machine.specs.Logs.{first_entries}
 use Rattle.machine.specs.declared.log.Store.{Store}
-use Rattle.machine.specs.declared.log.Log.{Log}
 use Rattle.machine.specs.declared.row.Row.{Row}
-
--- The entries of a log.
-abbrev pub log_of : Log → List LogEntry
-log_of log = first_entries log.len log.stores
 
 -- A row of the table as a row of the rules.
 abbrev pub warp_row_in : Row → WarpRow

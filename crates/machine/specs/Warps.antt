@@ -5,7 +5,6 @@ use Rattle.rules.specs.State.{WarpRow, warp_row_at}
 use Rattle.rules.specs.declared.state.Access.{Access}
 use Rattle.rules.specs.declared.state.Access.TheVariants.{Read, Write}
 use Rattle.rules.specs.declared.state.Request.{Request}
-use Rattle.machine.specs.Queue.{queue_requests}
 use Rattle.machine.specs.Rows.{warp_row_in}
 use Rattle.machine.specs.declared.warps.Warps.{Warps}
 
@@ -13,7 +12,7 @@ abbrev pub warp_rows : Warps → List WarpRow
 warp_rows t = map warp_row_in t.rows.items
 
 abbrev pub queue_of : Warps → List Request
-queue_of t = queue_requests t.queue
+queue_of t = t.queue
 
 abbrev pub warp_row : Warps → ℕ → WarpRow
 warp_row t w = warp_row_at (warp_rows t) w

@@ -2,13 +2,13 @@
 ghost use Rattle.std.specs.Prelude.{◌≡◌, ◌<◌, ◌≤◌, [], ◌∷◌, ◌++◌, map, length};
 ghost use Rattle.std.specs.Prelude.{if◌then◌else◌, Some, None, nat_le};
 ghost use Rattle.std.specs.List.{All};
-ghost use Rattle.std.specs.Option.{option_map};
 ghost use Rattle.protocol.specs.Limits.{line_limit, log_limit};
 ghost use Rattle.rules.specs.Logs.{log_entry, last_stored, logged_lines};
 
 use crate::lines::push_new;
 use arrayvec::ArrayVec;
 use protocol::limits::STORES;
+use std::marker::Model;
 
 /// One store of a transaction, to a line that a book can number.
 #[derive(Clone, Copy, PartialEq, Eq, Debug)]
@@ -30,21 +30,32 @@ impl Default for Store {
 }
 
 /// The stores of a transaction, in the order made. It is changed by value.
-#[derive(Clone, Copy)]
+#[derive(Drop)]
 pub struct Log {
     pub(crate) len: usize,
     pub(crate) stores: [Store; 32],
-    ghost size: { length stores ≡ 32 },
-    ghost room: { len ≤ log_limit },
+}
+
+impl Model for Log {
+    ghost use Rattle.std.specs.Prelude.{◌≡◌, ◌≤◌, List, length};
+    ghost use Rattle.protocol.specs.Limits.{log_limit};
+    ghost use Rattle.rules.specs.Logs.{LogEntry};
+
+    ghost Value = { List LogEntry };
+
+    ghost use Rattle.machine.specs.Logs.{first_entries};
+
+    ghost view = { λ log. first_entries log.len log.stores };
+
+    ghost invariant = { λ log. (length log.stores ≡ 32) × (log.len ≤ log_limit) };
 }
 
 impl Log {
     ghost use Rattle.machine.specs.Logs.{store_entry, first_entries};
-    ghost use Rattle.machine.specs.Rows.{log_of};
 
     /// A log without stores.
     pub fn new() -> Log
-        ensures { log_of result ≡ [] }
+        ensures { result ≡ [] }
     {
         Log {
             len: 0,
@@ -55,7 +66,7 @@ impl Log {
     /// The log of the first `len` of some stores, if a log can hold that many.
     // A fixed form (docs/DECISIONS.md): a row's number of stores and its array as they are, for one check.
     pub fn of(len: usize, stores: &[Store; 32]) -> Option<Log>
-        ensures { option_map log_of result
+        ensures { result
             ≡ (if nat_le len log_limit then Some (first_entries len stores.now) else None) }
     {
         if len > STORES {
@@ -69,8 +80,8 @@ impl Log {
 
     /// The log with one more store at its end.
     pub(crate) fn push(mut self, store: Store) -> Log
-        requires { length (log_of self) < log_limit }
-        ensures { log_of result ≡ log_of self ++ store_entry store ∷ [] }
+        requires { length self < log_limit }
+        ensures { result ≡ self ++ store_entry store ∷ [] }
     {
         self.stores[self.len] = store;
         self.len += 1;
@@ -79,7 +90,7 @@ impl Log {
 
     /// The number of stores.
     pub fn len(&self) -> usize
-        ensures value { result ≡ length (log_of self.now) }
+        ensures value { result ≡ length self.now }
         ensures room { result ≤ log_limit }
     {
         self.len
@@ -87,7 +98,7 @@ impl Log {
 
     /// The stores, in the order made.
     pub fn stores(&self) -> &[Store]
-        ensures value { map store_entry result.now ≡ log_of self.now }
+        ensures value { map store_entry result.now ≡ self.now }
         ensures room { length result.now ≤ log_limit }
     {
         &self.stores[..self.len]
@@ -95,7 +106,7 @@ impl Log {
 
     /// The last value that was stored to the line, if any.
     pub fn latest(&self, line: u32) -> Option<u32>
-        ensures { result ≡ last_stored (log_of self.now) line }
+        ensures { result ≡ last_stored self.now line }
     {
         // A fixed form (docs/DECISIONS.md): a loop over the stored part looks for the latest entry.
         let mut found = None;
@@ -109,7 +120,7 @@ impl Log {
 
     /// The lines that are stored to, each once, in the order of their first store.
     pub fn lines(&self) -> ArrayVec<u32, 32>
-        ensures value { result.items ≡ logged_lines (log_of self.now) }
+        ensures value { result.items ≡ logged_lines self.now }
         ensures inside { All (λ line. line < line_limit) result.items }
     {
         let mut lines = ArrayVec::new();

@@ -6,7 +6,6 @@ ghost use Rattle.rules.specs.Access.{line_state};
 ghost use Rattle.rules.specs.Queue.{request_of};
 ghost use Rattle.rules.specs.State.{warp_row_of};
 ghost use Rattle.machine.specs.Meaning.{state, memory_of, book_of, warps_of};
-ghost use Rattle.machine.specs.Rows.{log_of};
 ghost use Rattle.machine.specs.Outcomes.{outcome_of};
 
 use crate::log::Log;
@@ -51,7 +50,7 @@ impl<M: Memory, B: Book> Machine<M, B> {
 
     /// What a warp has stored and not yet committed.
     pub fn log(&self, warp: u32) -> Log
-        ensures { log_of result ≡ (warp_row_of (state M.at B.kind B.model self.now) warp).log }
+        ensures { result ≡ (warp_row_of (state M.at B.kind B.model self.now) warp).log }
     {
         self.warps.log(warp)
     }

@@ -33,7 +33,7 @@ impl Default for Row {
 }
 
 impl Row {
-    ghost use Rattle.machine.specs.Rows.{log_of, warp_row_in};
+    ghost use Rattle.machine.specs.Rows.{warp_row_in};
 
     /// The row of a warp without a transaction.
     pub(crate) fn idle(stamp: u64) -> Row
@@ -50,17 +50,17 @@ impl Row {
 
     /// The row's log, made after one check of its length.
     pub(crate) fn log(&self) -> Log
-        ensures { log_of result ≡ (warp_row_in self.now).log }
+        ensures { result ≡ (warp_row_in self.now).log }
     {
         Log::of(self.len, &self.stores).unwrap()
     }
 
     /// Writes a log back to the row.
     pub(crate) fn set_log(&mut self, log: Log)
-        ensures { warp_row_in self.new ≡ record (warp_row_in self.old) { log = log_of log } }
+        ensures { warp_row_in self.new ≡ record (warp_row_in self.old) { log = log } }
     {
-        let Log { len, stores } = log;
-        self.len = len;
+        self.len = log.len;
+        let stores = log.stores;
         self.stores = stores;
     }
 

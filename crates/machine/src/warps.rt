@@ -8,7 +8,7 @@ ghost use Rattle.rules.specs.State.{is_idle, is_waiting};
 ghost use Rattle.rules.specs.declared.state.Phase.TheVariants.{Open, Waiting, Settled};
 ghost use Rattle.machine.specs.Phases.{highest_stamp, highest_in, next_stamp, next_in};
 ghost use Rattle.machine.specs.Phases.{is_open, is_settled};
-ghost use Rattle.machine.specs.Rows.{log_of, warp_row_in};
+ghost use Rattle.machine.specs.Rows.{warp_row_in};
 ghost use Rattle.machine.specs.Soundness.{IsSound};
 
 use crate::log::{Log, Store};
@@ -25,7 +25,7 @@ pub struct Warps {
     pub(crate) rows: ArrayVec<Row, 32>,
     pub(crate) queue: Queue,
     ghost count: { length rows.items ≤ 32 },
-    ghost sound: { IsSound rows.items queue.requests.items },
+    ghost sound: { IsSound rows.items queue },
 }
 
 impl Warps {
@@ -88,7 +88,7 @@ impl Warps {
 
     /// A warp's log.
     pub fn log(&self, warp: u32) -> Log
-        ensures { log_of result ≡ (warp_row self.now warp).log }
+        ensures { result ≡ (warp_row self.now warp).log }
     {
         self.row(warp).map_or_else(Log::new, Row::log)
     }
@@ -203,7 +203,7 @@ impl Warps {
     fn set_log(&mut self, warp: u32, log: Log)
         requires { is_waiting (warp_row self.old warp).phase ≡ false }
         ensures warp_rows { warp_rows self.new ≡ slice_set (warp_rows self.old) warp
-            (record (warp_row self.old warp) { log = log_of log }) }
+            (record (warp_row self.old warp) { log = log }) }
         ensures queue { queue_of self.new ≡ queue_of self.old }
     {
         if let Some(row) = self.rows.get_mut(warp as usize) {

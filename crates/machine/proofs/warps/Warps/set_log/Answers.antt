@@ -1,7 +1,6 @@
 -- The row of a warp that does not wait may change: it has no request.
 use Rattle.std.proofs.Common.{◌<◌, length, ap, ◌∙◌, rules}
 use Rattle.rules.specs.State.{WarpRow}
-use Rattle.machine.specs.Rows.{log_of}
 use Rattle.machine.proofs.SoundQueue.{free, row_set}
 use Rattle.machine.proofs.WarpRows.{warp_row_here, warp_rows_set}
 use Rattle.machine.proofs.warps.Warps.set_log.Goals as goal
@@ -18,4 +17,4 @@ returns-in-Some-clause-warp_rows c =
     let low : c.args.warp < length rows = search rules in
     let here = warp_row_here rows c.args.warp c.in-Some.row.now low c.in-Some.ensures.value in
     warp_rows_set rows c.args.warp c.set_log.new.self _
-    (c.set_log.ensures ∙ ap (λ (l : WarpRow). record l { log = log_of c.args.log }) here)
+    (c.set_log.ensures ∙ ap (λ (l : WarpRow). record l { log = c.args.log }) here)

@@ -9,21 +9,21 @@ use Rattle.rules.specs.Refusals.{fault_unless}
 use Rattle.rules.specs.State.{idle_row}
 use Rattle.machine.specs.CallParts.{as_result}
 
--- A shape with no fault has no more stamps than there may be warps.
-few_enough : (count : ℕ) (b : Bool) (refusal : Refusal) (rest : Option Fault) → b ≡ (nat_lt 0 count && nat_le count 32)
+-- A shape without a fault has at most the maximum number of warps.
+count_in_limit : (count : ℕ) (b : Bool) (refusal : Refusal) (rest : Option Fault) → b ≡ (nat_lt 0 count && nat_le count 32)
     → option_or (fault_unless b refusal count) rest ≡ None → count ≤ 32
-few_enough count true refusal rest is e = leb-true count 32 (and_parts (nat_lt 0 count) (nat_le count 32) (sym is)).1
-few_enough count false refusal rest is e = cc
+count_in_limit count true refusal rest is e = leb-true count 32 (and_parts (nat_lt 0 count) (nat_le count 32) (sym is)).1
+count_in_limit count false refusal rest is e = cc
 
-pub made_with : (stamps : List ℕ) (refusal : Refusal) (rest found : Option Fault) (shape : Result (Unit {0}) Fault) (ok : Bool)
+pub first_rows_of_good_shape : (stamps : List ℕ) (refusal : Refusal) (rest found : Option Fault) (shape : Result (Unit {0}) Fault) (ok : Bool)
     → found ≡ option_or (fault_unless (nat_lt 0 (length stamps) && nat_le (length stamps) 32) refusal (length stamps)) rest
     → shape ≡ as_result found → ok ≡ is_ok shape → ok ≡ true
     → map idle_row (take 32 stamps) ≡ first_warp_rows found stamps
-made_with stamps refusal rest None shape ok is s o e =
-    ap (map idle_row) (take_all 32 stamps (few_enough (length stamps) _ refusal rest refl (sym is)))
-made_with stamps refusal rest (Some fault) shape ok is s o e = cc
+first_rows_of_good_shape stamps refusal rest None shape ok is s o e =
+    ap (map idle_row) (take_all 32 stamps (count_in_limit (length stamps) _ refusal rest refl (sym is)))
+first_rows_of_good_shape stamps refusal rest (Some fault) shape ok is s o e = cc
 
-pub made_without : (stamps : List ℕ) (found : Option Fault) (shape : Result (Unit {0}) Fault) (ok : Bool)
+pub no_rows_of_refused_shape : (stamps : List ℕ) (found : Option Fault) (shape : Result (Unit {0}) Fault) (ok : Bool)
     → shape ≡ as_result found → ok ≡ is_ok shape → ok ≡ false → [] ≡ first_warp_rows found stamps
-made_without stamps None shape ok s o e = cc
-made_without stamps (Some fault) shape ok s o e = refl
+no_rows_of_refused_shape stamps None shape ok s o e = cc
+no_rows_of_refused_shape stamps (Some fault) shape ok s o e = refl

@@ -1,4 +1,4 @@
--- The rules' words for lists, as the library's searches tell them.
+-- std's searches give the rules' words for lists.
 use Rattle.std.proofs.Common.{◌≡◌, ◌<◌, ◌≤◌, ℕ, min, cond, ◌||◌, eqb, ltb, List, [], ◌∷◌, length, take, take_all, Some, ⊎_elim, refl, sym, ap, ◌∙◌, arith}
 use Rattle.std.proofs.lemmas.Bool.{cases_lt}
 use Rattle.std.proofs.lemmas.Bool.Decides.{nat_tests}
@@ -20,7 +20,7 @@ pub list_any-requests_on :
 list_any-requests_on [] n = refl
 list_any-requests_on (r ∷ rest) n = let rest_found = list_any-requests_on rest n in grind (arith, nat_tests)
 
--- The first so many of some numbers, where there may be fewer.
+-- The first 32 of some numbers, if there are so many.
 pub take-min : (ns : List ℕ) (n : ℕ) → n ≡ min (length ns) 32 → take n ns ≡ take 32 ns
 take-min ns n e = ⊎_elim more few (cases_lt 32 (length ns))
   where

@@ -1,4 +1,4 @@
--- What each way of serving a load or a store leaves is what the rules say.
+-- Serving a load or a store leaves what the rules say.
 use Rattle.std.proofs.Common.{◌≡◌, ℕ, ◌<◌, true, List, length, set, sym, ap, ◌∙◌, subst}
 use Rattle.std.proofs.lemmas.Bool.{ltb-true}
 use Rattle.protocol.specs.Limits.{log_limit}
@@ -17,20 +17,20 @@ module _ {k : Kind} where
   abbrev pub built : Lines → k.State → List WarpRow → List Request → Machine k
   built lines book warp_rows queue = record { lines = lines; book = book; warp_rows = warp_rows; queue = queue }
 
-  -- Rows and queue changed after the rest.
-  pub then_tables :
+  -- A machine whose rows and queue are changed last.
+  pub with_rows_and_queue :
       (m n : Machine k) (warp_rows : List WarpRow) (queue : List Request) (f : List WarpRow → List WarpRow)
       (q : List Request → List Request) → m ≡ n → warp_rows ≡ f m.warp_rows → queue ≡ q m.queue
       → built m.lines m.book warp_rows queue
       ≡ built n.lines n.book (f n.warp_rows) (q n.queue)
-  then_tables m n warp_rows queue f q e a b =
+  with_rows_and_queue m n warp_rows queue f q e a b =
       ap (λ ls. built m.lines m.book ls queue) a
       ∙ ap (λ qs. built m.lines m.book (f m.warp_rows) qs) b
       ∙ ap (λ (x : Machine k). built x.lines x.book (f x.warp_rows) (q x.queue)) e
 
   module _ (m : Machine k) (w line : ℕ) where
-    abbrev logs_it : ℕ → List WarpRow → List WarpRow
-    logs_it value ls = set ls w (row_with_store (warp_row_at ls w) line value)
+    abbrev rows_with_store : ℕ → List WarpRow → List WarpRow
+    rows_with_store value ls = set ls w (row_with_store (warp_row_at ls w) line value)
 
     pub read_served : (after : Machine k) (access : Access) → access ≡ Read → after ≡ with_read_noted m w line
         → after ≡ (served_on_free_line m w line access).machine
@@ -45,11 +45,11 @@ module _ {k : Kind} where
     pub write_served :
         (mid : Machine k) (warp_rows : List WarpRow) (queue : List Request) (value : ℕ) (access : Access)
         → access ≡ Write value
-        → mid ≡ with_line_reserved m w line → warp_rows ≡ logs_it value mid.warp_rows → queue ≡ mid.queue
+        → mid ≡ with_line_reserved m w line → warp_rows ≡ rows_with_store value mid.warp_rows → queue ≡ mid.queue
         → built mid.lines mid.book warp_rows queue ≡ (served_on_free_line m w line access).machine
     unfolding served_on_free_line
     write_served mid warp_rows queue value access is e a b =
-        then_tables mid (with_line_reserved m w line) warp_rows queue (logs_it value) (λ q. q) e a b
+        with_rows_and_queue mid (with_line_reserved m w line) warp_rows queue (rows_with_store value) (λ q. q) e a b
         ∙ ap (λ a. (served_on_free_line m w line a).machine) (sym is)
 
     pub write_stored : (value : ℕ) (access : Access) → access ≡ Write value → Stored ≡ (served_on_free_line m w line access).outcome
@@ -68,11 +68,11 @@ module _ {k : Kind} where
 
     pub own_write_served :
         (book : k.State) (warp_rows : List WarpRow) (queue : List Request) (value : ℕ) (access : Access)
-        → access ≡ Write value → book ≡ state_after_add k m.book line → warp_rows ≡ logs_it value m.warp_rows → queue ≡ m.queue
+        → access ≡ Write value → book ≡ state_after_add k m.book line → warp_rows ≡ rows_with_store value m.warp_rows → queue ≡ m.queue
         → built m.lines book warp_rows queue ≡ (served_on_own_line m w line access).machine
     unfolding served_on_own_line
     own_write_served book warp_rows queue value access is e a b =
-        then_tables (with_book m book) (with_book m (state_after_add k m.book line)) warp_rows queue (logs_it value) (λ q. q)
+        with_rows_and_queue (with_book m book) (with_book m (state_after_add k m.book line)) warp_rows queue (rows_with_store value) (λ q. q)
         (ap (with_book m) e) a b
         ∙ ap (λ a. (served_on_own_line m w line a).machine) (sym is)
 
@@ -82,8 +82,8 @@ module _ {k : Kind} where
     own_write_stored value access is = ap (λ a. (served_on_own_line m w line a).outcome) (sym is)
 
     -- Room for an access that is a store is a free place in the log.
-    pub room_for_it :
+    pub room_for_store :
         (access : Access) (value : ℕ) → access ≡ Write value → has_room (warp_row_of m w) access ≡ true
         → length (warp_row_of m w).log < log_limit
-    room_for_it access value is room =
+    room_for_store access value is room =
         ltb-true (length (warp_row_of m w).log) log_limit (subst (λ a. has_room (warp_row_of m w) a ≡ true) is room)

@@ -1,4 +1,4 @@
--- A request that waited is withdrawn, served as any other, and has its outcome: so it comes out.
+-- A waiting request is settled: it is withdrawn, served as any other, and gets its outcome.
 use Rattle.std.proofs.Common.{◌≡◌, ℕ, ◌<◌, ◌≤◌, Bool, true, false, List, length, set, sym, refl, ap, ◌∙◌, ⊎_elim, arith}
 use Rattle.std.proofs.lemmas.List.{get_or-set_same, set-set, set_past, get_or_past}
 use Rattle.std.proofs.lemmas.Bool.{cases_lt}
@@ -16,13 +16,13 @@ use Rattle.rules.specs.declared.state.Request.{Request}
 use Rattle.machine.specs.Phases.{highest_stamp, next_stamp, is_open}
 use Rattle.machine.specs.Warps.{has_room}
 use Rattle.machine.specs.CallParts.{after_serving, with_outcome_set}
-use Rattle.machine.proofs.ServeSteps.{built, then_tables}
+use Rattle.machine.proofs.ServeSteps.{built, with_rows_and_queue}
 
 module _ (rows : List WarpRow) (w : ℕ) where
   abbrev opened : List WarpRow
   opened = set rows w (row_in_phase (warp_row_at rows w) Open)
 
-  -- Only a warp that is there waits.
+  -- A waiting warp is one of the machine's.
   waiting_there : is_waiting (warp_row_at rows w).phase ≡ true → w < length rows
   waiting_there e =
       ⊎_elim (λ low. low)
@@ -30,23 +30,23 @@ module _ (rows : List WarpRow) (w : ℕ) where
       let no : ◌≡◌ {A = Bool} true false = sym e ∙ none in absurd cc)
       (cases_lt w (length rows))
 
-  -- Its row, once its request is withdrawn: open, with its stamp and its log.
+  -- The row of a warp whose request is withdrawn: open, with the same stamp and log.
   opened_row : w < length rows → warp_row_at opened w ≡ row_in_phase (warp_row_at rows w) Open
   opened_row low = get_or-set_same rows w (row_in_phase (warp_row_at rows w) Open) (idle_row 0) low
 
 module _ {k : Kind} (m : Machine k) (w : ℕ) where
-  pub withdrawn_is :
+  pub withdrawal_is :
       (warp_rows : List WarpRow) (queue : List Request)
       → warp_rows ≡ opened m.warp_rows w → queue ≡ queue_without m.queue w
       → built m.lines m.book warp_rows queue ≡ after_withdrawal m w
   unfolding after_withdrawal
-  withdrawn_is warp_rows queue a b =
-      then_tables m m warp_rows queue (λ ls. opened ls w) (λ q. queue_without q w) refl a b
+  withdrawal_is warp_rows queue a b =
+      with_rows_and_queue m m warp_rows queue (λ ls. opened ls w) (λ q. queue_without q w) refl a b
 
-  pub comes_out_is : (after : Machine k) (outcome : Outcome) → after ≡ with_outcome_set (after_withdrawal m w) w outcome
+  pub settling_is : (after : Machine k) (outcome : Outcome) → after ≡ with_outcome_set (after_withdrawal m w) w outcome
       → after ≡ after_settling m w outcome
   unfolding after_settling
-  comes_out_is after outcome e = e
+  settling_is after outcome e = e
 
   module _ (waits : is_waiting (warp_row_of m w).phase ≡ true) where
     pub withdrawn_open : is_open (warp_row_of (after_withdrawal m w) w).phase ≡ true
@@ -60,15 +60,15 @@ module _ {k : Kind} (m : Machine k) (w : ℕ) where
     withdrawn_room (Write value) room =
         ap (λ r. has_room r (Write value)) (opened_row m.warp_rows w (waiting_there m.warp_rows w waits)) ∙ room
 
-    -- Withdrawing and serving do not get in each other's way.
+    -- It makes no difference whether the request is withdrawn before it is served or after.
     module _ (line : ℕ) where
-      serve_withdrawn : (access : Access) → (served_on_free_line (after_withdrawal m w) w line access).machine
+      served_machine-withdrawal : (access : Access) → (served_on_free_line (after_withdrawal m w) w line access).machine
           ≡ after_withdrawal (served_on_free_line m w line access).machine w
       unfolding served_on_free_line after_withdrawal
-      serve_withdrawn Read =
+      served_machine-withdrawal Read =
           ap (λ (r : WarpRow). with_book (after_withdrawal m w) (state_after_note k m.book line (r.stamp, w)))
           (opened_row m.warp_rows w (waiting_there m.warp_rows w waits))
-      serve_withdrawn (Write value) =
+      served_machine-withdrawal (Write value) =
           let rows = m.warp_rows in
           let row = warp_row_at rows w in
           let low = waiting_there rows w waits in
@@ -81,22 +81,22 @@ module _ {k : Kind} (m : Machine k) (w : ℕ) where
           ∙ sym (set-set rows w (row_with_store row line value) (row_in_phase (row_with_store row line value) Open))
           ∙ ap (λ (r : WarpRow). set logged w (row_in_phase r Open)) (sym at))
 
-      serve_same : (access : Access) → (served_on_free_line (after_withdrawal m w) w line access).outcome ≡ (served_on_free_line m w line access).outcome
+      served_outcome-withdrawal : (access : Access) → (served_on_free_line (after_withdrawal m w) w line access).outcome ≡ (served_on_free_line m w line access).outcome
       unfolding served_on_free_line after_withdrawal
-      serve_same Read = refl
-      serve_same (Write value) = refl
+      served_outcome-withdrawal Read = refl
+      served_outcome-withdrawal (Write value) = refl
 
-      pub through :
+      pub served_after_withdrawal :
           (mid after : Machine k) (access : Access) (outcome : Outcome)
           → mid ≡ (served_on_free_line (after_withdrawal m w) w line access).machine
           → outcome ≡ (served_on_free_line (after_withdrawal m w) w line access).outcome
           → after ≡ with_outcome_set mid w outcome → after ≡ after_serving m w line access
       unfolding after_settling
-      through mid after access outcome a b e =
-          e ∙ ap (λ x. with_outcome_set x w outcome) (a ∙ serve_withdrawn access)
-          ∙ ap (with_outcome_set (after_withdrawal (served_on_free_line m w line access).machine w) w) (b ∙ serve_same access)
+      served_after_withdrawal mid after access outcome a b e =
+          e ∙ ap (λ x. with_outcome_set x w outcome) (a ∙ served_machine-withdrawal access)
+          ∙ ap (with_outcome_set (after_withdrawal (served_on_free_line m w line access).machine w) w) (b ∙ served_outcome-withdrawal access)
 
--- What is served leaves its warp open, and tells no next stamp.
+-- A served request leaves its warp open, and has no next stamp.
 module _ {k : Kind} (m : Machine k) (w line : ℕ) where
   pub served_open : (access : Access) → is_open (warp_row_of m w).phase ≡ true
       → is_open (warp_row_of (served_on_free_line m w line access).machine w).phase ≡ true

@@ -21,7 +21,7 @@ use protocol::limits::{LINE_ROOM, QUEUE_ROOM};
 use protocol::{Answer, Cause, Outcome};
 use rules::{Phase, Request, Verdict};
 
-/// The product's limits.
+/// The product's limits of the queue.
 const QUEUE_LIMITS: QueueLimits = QueueLimits {
     requests_per_line: LINE_ROOM,
     lines: QUEUE_ROOM,
@@ -74,8 +74,8 @@ impl<M: Memory, B: Book> Machine<M, B> {
         QUEUE_LIMITS
     }
 
-    /// A load or a store that must wait. If the queue is full for its line, the transaction is gone, and restarts at its
-    /// own stamp.
+    /// A load or a store that must wait. If the queue is full for its line, the transaction is
+    /// gone, and restarts at its own stamp.
     fn wait_or_end(&mut self, request: Request) -> Answer
         requires open { is_open (warp_row self.old.warps request.warp).phase ≡ true }
         requires room { has_room (warp_row self.old.warps request.warp) request.access ≡ true }
@@ -146,7 +146,8 @@ impl<M: Memory, B: Book> Machine<M, B> {
         }
     }
 
-    /// Delivers a settled outcome. After a value or a store the warp is open again; a transaction that is gone ends.
+    /// Delivers a settled outcome. After a value or a store the warp is open again; a transaction
+    /// that is gone ends.
     fn deliver(&mut self, warp: u32, outcome: Outcome) -> Answer
         requires settled { (warp_row self.old.warps warp).phase ≡ Settled outcome }
         requires bound { next_stamp outcome ≤ highest_stamp }

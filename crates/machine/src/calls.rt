@@ -1,6 +1,7 @@
 //! The six calls. A refused call gives its fault as an error, and changes nothing.
 ghost use Rattle.std.specs.Prelude.{◌≡◌, None, Ok, OnErr};
-ghost use Rattle.protocol.specs.declared.call.Op.TheVariants.{Begin, Load, Store, Commit, Drop, Fetch};
+ghost use Rattle.protocol.specs.declared.call.Op.TheVariants.{Begin, Load, Store};
+ghost use Rattle.protocol.specs.declared.call.Op.TheVariants.{Commit, Drop, Fetch};
 ghost use Rattle.rules.specs.Refusals.{fault_of};
 ghost use Rattle.rules.specs.Steps.{accepted_step, step};
 ghost use Rattle.machine.specs.Meaning.{state, policy_of, loan};

@@ -1,4 +1,5 @@
-//! The end of a transaction: its lines are released, its warp is idle, and the requests that wait for them are retried.
+//! The end of a transaction: its lines are released, its warp becomes idle, and the requests that
+//! wait for those lines are retried.
 ghost use Rattle.std.specs.Prelude.{◌≡◌, ◌<◌, ◌≤◌, false};
 ghost use Rattle.std.specs.List.{All};
 ghost use Rattle.protocol.specs.Limits.{line_limit};
@@ -26,7 +27,8 @@ impl<M: Memory, B: Book> Machine<M, B> {
         }
     }
 
-    /// Releases a warp's lines, makes the warp idle at a stamp, and then retries the requests that wait for those lines.
+    /// Releases a warp's lines, makes the warp idle at a stamp, and then retries the requests that
+    /// wait for those lines.
     fn give_up(&mut self, warp: u32, stamp: u64, lines: &[u32])
         requires free { is_waiting (warp_row self.old.warps warp).phase ≡ false }
         requires bound { stamp ≤ highest_stamp }

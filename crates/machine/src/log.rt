@@ -64,7 +64,7 @@ impl Log {
     }
 
     /// The log of the first `len` of some stores, if a log can hold that many.
-    // A fixed form (docs/DECISIONS.md): a row's number of stores and its array as they are, for one check.
+    // A fixed form (docs/DECISIONS.md): one check of a row's number of stores.
     pub fn of(len: usize, stores: &[Store; 32]) -> Option<Log>
         ensures { result
             ≡ (if nat_le len log_limit then Some (first_entries len stores.now) else None) }

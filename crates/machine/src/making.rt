@@ -33,7 +33,7 @@ fn check_count(count: usize) -> Result<(), Fault>
 }
 
 /// Refuses a stamp past the end of the clock, and a book that is not new.
-#[tactic(auto, using(crate::proofs::LateStamps::found_late))]
+#[tactic(auto, using(crate::proofs::LateStamps::find_late_is_first_late))]
 fn check_stamps(stamps: &[u32], latest: u32) -> Result<(), Fault>
     ensures { result ≡ stamp_fault stamps.now latest }
 {
@@ -55,8 +55,8 @@ fn check_shape<B: Book>(book: &B, stamps: &[u32]) -> Result<(), Fault>
 }
 
 impl<M: Memory, B: Book> Machine<M, B> {
-    /// Makes a machine of idle warps at their first stamps. If the shape is refused, the machine has no warps, so it
-    /// refuses every call.
+    /// Makes a machine of idle warps at their first stamps. If the shape is refused, the machine
+    /// has no warps, so it refuses every call.
     pub fn make(memory: M, book: B, stamps: &[u32]) -> (Machine<M, B>, Result<(), Fault>)
         ensures machine { state M.at B.kind B.model result.0
             ≡ new_machine B.kind (M.at memory) (B.model book) stamps.now }

@@ -1,4 +1,4 @@
-//! What the machine asks of its memory and its book, and what it tells them.
+//! How the machine reads and changes its memory and its book.
 ghost use Rattle.std.specs.Prelude.{◌≡◌, ◌≤◌, [], ◌∷◌, map};
 ghost use Rattle.rules.specs.Ending.{with_lines_released};
 ghost use Rattle.rules.specs.Serving.{memory_value, with_read_noted};
@@ -16,7 +16,8 @@ use memory::Memory;
 
 /// Writes some stores to a memory, in order.
 fn write_all<M: Memory>(memory: &mut M, stores: &[Store])
-    ensures lines { M.at memory.new ≡ lines_after_stores (M.at memory.old) (map store_entry stores.now) }
+    ensures lines { M.at memory.new
+        ≡ lines_after_stores (M.at memory.old) (map store_entry stores.now) }
     ensures lender { M.lent memory.new ≡ M.lent memory.old }
     ensures untouched { M.spare memory.new ≡ M.spare memory.old }
 {

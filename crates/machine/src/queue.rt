@@ -118,8 +118,8 @@ impl Queue {
         lines.len()
     }
 
-    /// Whether there is no room for one more request for a line: the line has its maximum number of requests, or it has
-    /// none while the maximum number of lines have some.
+    /// Whether there is no room for one more request for a line: the line has its maximum number of
+    /// requests, or it has none while the maximum number of lines have some.
     pub fn is_full(&self, line: u32, limits: QueueLimits) -> bool
         ensures { result ≡ is_full limits.requests_per_line limits.lines self.now line }
     {

@@ -2,7 +2,8 @@
 ghost use Rattle.std.specs.Prelude.{◌≡◌, length, nat_lt};
 ghost use Rattle.protocol.specs.declared.fault.Refusal.TheVariants.{NoSuchWarp, NoSuchLine};
 ghost use Rattle.rules.specs.Refusals.{idle_refuses, open_refuses, pending_refuses, phase_refuses};
-ghost use Rattle.rules.specs.Refusals.{refusal_fault, fault_unless, has_line, number_fault, fault_of};
+ghost use Rattle.rules.specs.Refusals.{refusal_fault, fault_unless, has_line};
+ghost use Rattle.rules.specs.Refusals.{number_fault, fault_of};
 ghost use Rattle.machine.specs.Warps.{warp_rows, warp_row};
 ghost use Rattle.machine.specs.Meaning.{state};
 ghost use Rattle.machine.specs.CallParts.{as_result, room_fault, clock_fault, warp_fault};
@@ -37,7 +38,7 @@ fn open_refuses(op: Op) -> Option<Refusal>
     }
 }
 
-/// Why a warp is refused an operation before it has fetched the outcome of a load or a store that had to wait.
+/// Why a warp is refused an operation while it waits, or has an outcome to fetch.
 fn pending_refuses(op: Op) -> Option<Refusal>
     ensures { result ≡ pending_refuses op }
 {
@@ -74,7 +75,8 @@ impl<M: Memory, B: Book> Machine<M, B> {
     /// Checks that the warp may ask for this in its phase.
     fn check_phase(&self, call: Call) -> Result<(), Fault>
         ensures { result ≡ as_result
-            (refusal_fault (phase_refuses (warp_row self.now.warps call.warp).phase call.op) call.warp) }
+            (refusal_fault (phase_refuses (warp_row self.now.warps call.warp).phase call.op)
+            call.warp) }
     {
         match phase_refuses(self.warps.phase(call.warp), call.op) {
             Some(why) => Err(Fault::in_call(why, u64::from(call.warp))),

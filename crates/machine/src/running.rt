@@ -38,11 +38,13 @@ impl<M: Memory, B: Book> Machine<M, B> {
     }
 }
 
-/// Makes a machine and executes as many calls as there are places for answers. It allocates nothing. Machine and answers
-/// are those of the rules, and the places behind the answers keep what they had. With every memory and every book:
+/// Makes a machine and executes as many calls as there are places for answers. It allocates
+/// nothing. Machine and answers are those of the rules, and the places behind the answers keep what
+/// they had. With every memory and every book:
 ///
-/// - the account of the run is that of its committed transactions executed one at a time, exactly in the orders that keep
-///   logical time between conflicting transactions, and there is such an order;
+/// - the account of the run is that of its committed transactions executed one at a time, exactly
+///   in the orders that keep logical time between conflicting transactions, and there is such an
+///   order;
 /// - from every waiting warp, stamps fall from holder to holder until one does not wait;
 /// - the rows, the queue and the book agree with the account;
 /// - a fetch returns what joined the account when the request was settled;

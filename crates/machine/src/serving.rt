@@ -7,7 +7,8 @@ ghost use Rattle.rules.specs.Serving.{served_on_free_line, served_on_own_line};
 ghost use Rattle.machine.specs.Phases.{highest_stamp, next_stamp, is_open};
 ghost use Rattle.machine.specs.Warps.{warp_row, has_room};
 ghost use Rattle.machine.specs.Meaning.{state, policy_of};
-ghost use Rattle.machine.specs.CallParts.{machine_after_turn, machine_after_turns, after_serving, with_outcome_set};
+ghost use Rattle.machine.specs.CallParts.{machine_after_turn, machine_after_turns};
+ghost use Rattle.machine.specs.CallParts.{after_serving, with_outcome_set};
 
 use crate::log::Store;
 use crate::machine::Machine;
@@ -45,8 +46,8 @@ impl<M: Memory, B: Book> Machine<M, B> {
         }
     }
 
-    /// On a line that is reserved for the warp itself: a load gives the last value that it logged there, a store is
-    /// counted.
+    /// On a line that is reserved for the warp itself: a load gives the last value that it logged
+    /// there, a store is counted.
     pub(crate) fn serve_own(&mut self, request: Request) -> Outcome
         requires inside { request.line < line_limit }
         requires open { is_open (warp_row self.old.warps request.warp).phase ≡ true }

@@ -32,7 +32,8 @@ impl Encounter {
         }
     }
 
-    /// The second step, and the first of a retry: a logically later transaction wrote the line, so this one is gone.
+    /// The second step, and the first of a retry: a logically later transaction wrote the line, so
+    /// this one is gone.
     pub fn retried(self) -> Verdict
         ensures value { result ≡ retried self.access self.line self.time }
         ensures bound { NextWithin highest_stamp result }
@@ -88,7 +89,7 @@ impl Encounter {
         }
     }
 
-    /// The stamp to restart at: past the line's write stamp, and for a store past its read mark too.
+    /// The stamp to restart at: past the line's write stamp, and for a store its read mark too.
     fn past(self) -> u64
         ensures value { result ≡ stamp_past self.access self.line }
         ensures bound { result ≤ highest_stamp }

@@ -1,4 +1,4 @@
--- The stores so far are looked through.
+-- The value is the last one stored to the line so far.
 use Rattle.std.proofs.Common.{◌≡◌, map, take}
 use Rattle.rules.specs.Logs.{last_stored}
 use Rattle.machine.specs.Logs.{store_entry}

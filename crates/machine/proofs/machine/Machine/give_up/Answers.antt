@@ -3,7 +3,7 @@ use Rattle.std.proofs.Common.{ap, ◌∙◌}
 use Rattle.rules.specs.State.{Machine, idle_row, is_waiting, warp_row_of}
 use Rattle.machine.specs.Warps.{warp_rows, queue_of}
 use Rattle.machine.specs.Meaning.{state, policy_of}
-use Rattle.machine.proofs.TransactionEnd.{gives_up_is}
+use Rattle.machine.proofs.TransactionEnd.{after_giving_up_is}
 use Rattle.machine.proofs.machine.Machine.give_up.Goals as goal
 
 pub make_idle-requires-clause-free : goal.make_idle-requires-clause-free
@@ -15,6 +15,6 @@ pub returns-clause-after : goal.returns-clause-after
 returns-clause-after g c =
     let m = state g.M.Memory.at g.B.Book.kind g.B.Book.model c.args.self.now in
     let mid = state g.M.Memory.at g.B.Book.kind g.B.Book.model c.release_all.new.self in
-    gives_up_is (policy_of g.B.Book.kind c.args.self.now) m c.args.warp (idle_row c.args.stamp) mid _
+    after_giving_up_is (policy_of g.B.Book.kind c.args.self.now) m c.args.warp (idle_row c.args.stamp) mid _
     (warp_rows c.make_idle.new.self) (queue_of c.make_idle.new.self) c.args.lines.now c.release_all.ensures.after
     c.make_idle.ensures.warp_rows c.make_idle.ensures.queue c.retry_lines.ensures.after

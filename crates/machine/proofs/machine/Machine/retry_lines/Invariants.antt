@@ -1,4 +1,4 @@
--- The lines so far are woken.
+-- The requests at the lines so far were retried.
 use Rattle.std.proofs.Common.{◌≡◌, take, fold}
 use Rattle.machine.specs.Meaning.{state, policy_of}
 use Rattle.machine.specs.CallParts.{machine_after_turns}

@@ -1,11 +1,11 @@
--- By the access: a load notes, a store reserves and logs.
+-- By the access: a load notes its read, a store reserves the line and is logged.
 use Rattle.std.proofs.Common.{◌<◌, length, sym, ap, ◌∙◌, subst}
 use Rattle.protocol.specs.Limits.{log_limit}
 use Rattle.rules.specs.State.{Machine, warp_row_of}
 use Rattle.machine.specs.Phases.{is_open}
 use Rattle.machine.specs.Warps.{warp_rows}
 use Rattle.machine.specs.Meaning.{state}
-use Rattle.machine.proofs.ServeSteps.{room_for_it, read_served, read_value, write_served, write_stored}
+use Rattle.machine.proofs.ServeSteps.{room_for_store, read_served, read_value, write_served, write_stored}
 use Rattle.machine.proofs.machine.Machine.serve.Goals as goal
 
 pub returns-in-Read-clause-after : goal.returns-in-Read-clause-after
@@ -27,7 +27,7 @@ log_store-requires-clause-room g c =
     let m = state g.M.Memory.at g.B.Book.kind g.B.Book.model c.args.self.now in
     let w = c.args.request.warp in
     subst (λ (m : Machine _). length (warp_row_of m w).log < log_limit) (sym c.reserve.ensures.after)
-    (room_for_it m w c.args.request.line c.args.request.access c.in-Write.value c.in-Write.is c.requires.room)
+    (room_for_store m w c.args.request.line c.args.request.access c.in-Write.value c.in-Write.is c.requires.room)
 
 pub returns-in-Write-clause-after : goal.returns-in-Write-clause-after
 returns-in-Write-clause-after g c =

@@ -1,7 +1,7 @@
--- By the access: a load notes, a store is counted and logged.
+-- By the access: a load notes its read, a store is counted and logged.
 use Rattle.machine.specs.Warps.{warp_rows}
 use Rattle.machine.specs.Meaning.{state}
-use Rattle.machine.proofs.ServeSteps.{room_for_it, own_read_served, own_read_value, own_write_served, own_write_stored}
+use Rattle.machine.proofs.ServeSteps.{room_for_store, own_read_served, own_read_value, own_write_served, own_write_stored}
 use Rattle.machine.proofs.machine.Machine.serve_own.Goals as goal
 
 pub returns-in-Read-clause-after : goal.returns-in-Read-clause-after
@@ -16,7 +16,7 @@ returns-in-Read-clause-answer g c =
 
 pub log_store-requires-clause-room : goal.log_store-requires-clause-room
 log_store-requires-clause-room g c =
-    room_for_it (state g.M.Memory.at g.B.Book.kind g.B.Book.model c.args.self.now) c.args.request.warp
+    room_for_store (state g.M.Memory.at g.B.Book.kind g.B.Book.model c.args.self.now) c.args.request.warp
     c.args.request.line c.args.request.access c.in-Write.value c.in-Write.is c.requires.room
 
 pub returns-in-Write-clause-after : goal.returns-in-Write-clause-after

@@ -1,11 +1,11 @@
--- A request may come of an open warp, if its log has room.
+-- A request of an open warp may join, if the log has room.
 use Rattle.std.proofs.Common.{◌≡◌, length, sym, refl, ap, ◌∙◌, subst, arith}
 use Rattle.std.proofs.lemmas.List.{get_or-set_same}
 use Rattle.rules.specs.State.{idle_row, warp_row_at, row_in_phase}
 use Rattle.rules.specs.declared.state.Phase.TheVariants.{Waiting}
 use Rattle.machine.specs.Warps.{warp_rows, warp_row}
 use Rattle.machine.specs.Soundness.{IsSound}
-use Rattle.machine.proofs.SoundQueue.{asks, free, room_for, room_in_phase, request_may_come, open_row}
+use Rattle.machine.proofs.SoundQueue.{has_request, free, room_for, room_in_phase, IsSound-wait, open_row}
 use Rattle.machine.proofs.warps.Warps.wait.Goals as goal
 
 pub set_phase-requires-clause-none : goal.set_phase-requires-clause-none
@@ -31,7 +31,7 @@ invariant_of-self c =
     let t = c.set_phase.new.self in
     let r = c.args.request in
     let o = open_row old r.warp c.requires.open in
-    let none = ap (λ q. asks q r.warp) c.set_phase.ensures.queue ∙ free old r.warp o.free in
+    let none = ap (λ q. has_request q r.warp) c.set_phase.ensures.queue ∙ free old r.warp o.free in
     let here : warp_row t r.warp ≡ row_in_phase (warp_row old r.warp) Waiting =
     ap (λ ls. warp_row_at ls r.warp) c.set_phase.ensures.warp_rows
     ∙ get_or-set_same (warp_rows old) r.warp _ (idle_row 0) o.inside in
@@ -39,5 +39,5 @@ invariant_of-self c =
     record {
       count = t.count;
       sound = subst (IsSound t.rows.items) (sym c.push.ensures)
-          (request_may_come t r (row_in_phase (warp_row old r.warp) Waiting) none here refl roomy);
+          (IsSound-wait t r (row_in_phase (warp_row old r.warp) Waiting) none here refl roomy);
     }

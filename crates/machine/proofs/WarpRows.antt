@@ -3,13 +3,14 @@ use Rattle.std.proofs.Common.{◌≡◌, ℕ, ◌<◌, List, map, length, get_or
 use Rattle.std.proofs.Math.ListN.{get_or-map}
 use Rattle.std.proofs.lemmas.List.{get_or_default, map-set, length-map, length-take-le}
 use Rattle.rules.specs.State.{WarpRow, warp_row_at}
-use Rattle.machine.specs.Rows.{store_entry, warp_row_in, no_row}
+use Rattle.machine.specs.Logs.{store_entry}
+use Rattle.machine.specs.Rows.{warp_row_in, no_row}
 use Rattle.machine.specs.declared.row.Row.{Row}
 
 pub warp_row_row : (rows : List Row) (w : ℕ) → warp_row_at (map warp_row_in rows) w ≡ warp_row_in (get_or rows w no_row)
 warp_row_row rows w = get_or-map warp_row_in rows w no_row
 
--- The row that was found at a place.
+-- The row at a place.
 pub warp_row_here :
     (rows : List Row) (w : ℕ) (row : Row) → w < length rows → row ≡ get_or rows w row
     → warp_row_in row ≡ warp_row_at (map warp_row_in rows) w
@@ -20,7 +21,7 @@ pub warp_rows_set :
     → map warp_row_in (set rows w row) ≡ set (map warp_row_in rows) w warp_row
 warp_rows_set rows w row warp_row is = map-set warp_row_in rows w row ∙ ap (set (map warp_row_in rows) w) is
 
--- A row's log is as long as it says.
+-- A row's number of stores is the length of its log.
 pub log_long : (row : Row) → length (warp_row_in row).log ≡ row.len
 log_long row =
     let size = row.size in

@@ -1,4 +1,4 @@
--- The tries and the end of a transaction, by the machine that they leave.
+-- What the parts of a call leave of the machine.
 use Rattle.std.specs.Prelude.{ℕ, [], ◌∷◌, ◌++◌, length, Some, None, Ok, Err, Option, Result, nat_le, nat_lt}
 use Rattle.std.specs.Option.{unwrap_or, option_or}
 use Rattle.protocol.specs.Limits.{log_limit, last_stamp}
@@ -22,20 +22,20 @@ use Rattle.rules.specs.Serving.{memory_value, served_on_free_line}
 use Rattle.rules.specs.Refusals.{fault_unless, refusal_fault, phase_refuses, number_fault}
 
 module _ {k : Kind} where
-  -- Nothing has come out yet.
+  -- Before the first retry: nothing is settled yet.
   abbrev pub before_tries : Machine k → AfterTries k
   before_tries m = record { machine = m; settled = [] }
 
-  -- A warp has an outcome to fetch.
+  -- A warp gets an outcome to fetch.
   abbrev pub with_outcome_set : Machine k → ℕ → Outcome → Machine k
   with_outcome_set m w outcome = with_warp_row m w (with_outcome (warp_row_of m w) outcome)
 
-  -- A request that waited goes on, and comes out.
+  -- A waiting request is served and settled.
   abbrev pub after_serving : Machine k → ℕ → ℕ → Access → Machine k
   after_serving m w line access =
       let served = served_on_free_line m w line access in after_settling served.machine w served.outcome
 
-  -- What a turn at a line leaves, and all turns at it.
+  -- The machine after one warp's turn at a line, and after all turns at it.
   abbrev pub machine_after_turn : ℕ → Machine k → ℕ → Machine k
   machine_after_turn line m w = (after_turn line (before_tries m) w).machine
 
@@ -50,12 +50,12 @@ module _ {k : Kind} where
   abbrev pub with_line_reserved : Machine k → ℕ → ℕ → Machine k
   with_line_reserved m w line = with_book m (state_after_reserve k m.book line (time_of m w))
 
-  -- What becomes of a request that must wait: without room in the queue its transaction is lost.
+  -- The verdict on a request that must wait: without room in the queue its transaction is gone.
   abbrev pub wait_verdict : Policy k → Machine k → ℕ → ℕ → Verdict
   wait_verdict policy m w line =
       verdict_with_room (is_full policy.line_room policy.queue_room m.queue line) (warp_row_of m w).stamp MustWait
 
-  -- What that leaves and answers.
+  -- Its step.
   abbrev pub wait_step : Policy k → Machine k → ℕ → ℕ → Access → Step k
   wait_step policy m w line access = step_by_verdict policy m w line access (wait_verdict policy m w line)
 
@@ -67,14 +67,14 @@ module _ {k : Kind} where
   abbrev pub step_of : Policy k → Machine k → ℕ → Op → Step k
   step_of policy m w op = step policy m (record { warp = w; op = op })
 
--- A full log, and a clock that is spent.
+-- The fault of a full log, and that of a spent clock.
 abbrev pub room_fault : WarpRow → Option Fault
 room_fault l = fault_unless (nat_lt (length l.log) log_limit) LogFull (length l.log)
 
 abbrev pub clock_fault : WarpRow → Option Fault
 clock_fault l = fault_unless (nat_le l.stamp last_stamp) ClockSpent l.stamp
 
--- What a warp that the machine has may be refused for.
+-- The fault of a call of a warp that the machine has.
 abbrev pub warp_fault : {k : Kind} → Machine k → ℕ → Op → Option Fault
 warp_fault m w op = option_or (refusal_fault (phase_refuses (warp_row_of m w).phase op) w) (number_fault m w op)
 

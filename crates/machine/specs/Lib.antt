@@ -1,4 +1,5 @@
-pub mod Lists
+pub mod Requests
+pub mod Logs
 pub mod Phases
 pub mod Rows
 pub mod Soundness

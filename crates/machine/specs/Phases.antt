@@ -6,7 +6,7 @@ use Rattle.protocol.specs.declared.answer.Outcome.TheVariants.{Value, Stored, Go
 use Rattle.rules.specs.declared.state.Phase.{Phase}
 use Rattle.rules.specs.declared.state.Phase.TheVariants.{Idle, Open, Waiting, Settled}
 
--- No stamp is above this, which is one more than the largest stamp that a book can tell.
+-- The highest stamp: one more than the largest that a book can hold.
 abbrev pub highest_stamp : ℕ
 highest_stamp = 2 ^ 32
 
@@ -17,13 +17,13 @@ highest_in Open = last_stamp
 highest_in Waiting = last_stamp
 highest_in (Settled outcome) = last_stamp
 
--- The next stamp that an outcome tells; 0 for one that tells none.
+-- The stamp at which a warp restarts after an outcome; 0 if its transaction goes on.
 abbrev pub next_stamp : Outcome → ℕ
 next_stamp (Value value) = 0
 next_stamp Stored = 0
 next_stamp (Gone cause next) = next
 
--- The next stamp that a warp is to fetch, if any.
+-- The same for the outcome that a phase holds; 0 if it holds none.
 abbrev pub next_in : Phase → ℕ
 next_in Idle = 0
 next_in Open = 0

@@ -1,5 +1,5 @@
--- The queue fits the rows: a request is of a waiting warp, which has no other, and a store that waits has room in
--- the log.
+-- When the queue fits the rows: a request is of a waiting warp, which has no other request, and a store that waits has
+-- room in its warp's log.
 use Rattle.std.specs.Prelude.{◌≡◌, Bool, true, not, ◌&&◌, List, [], ◌∷◌, is_some, nat_lt, slice_index_or}
 use Rattle.protocol.specs.Limits.{log_limit}
 use Rattle.rules.specs.Queue.{request_of}

@@ -1,4 +1,4 @@
-//! Loads and stores, by what they meet.
+//! Loads, stores and fetches.
 ghost use Rattle.std.specs.Prelude.{◌≡◌, ◌<◌, ◌≤◌, true, false, Ok};
 ghost use Rattle.protocol.specs.Limits.{line_limit};
 ghost use Rattle.protocol.specs.declared.answer.Answer.TheVariants.{Gone};
@@ -21,20 +21,18 @@ use protocol::limits::{LINE_ROOM, QUEUE_ROOM};
 use protocol::{Answer, Cause, Outcome};
 use rules::{Phase, Request, Verdict};
 
-/// How many requests a line may have, and how many lines may have some.
+/// The product's limits of the queue.
 const QUEUE_LIMITS: QueueLimits = QueueLimits {
     requests_per_line: LINE_ROOM,
     lines: QUEUE_ROOM,
 };
 
 impl<M: Memory, B: Book> Machine<M, B> {
-    /// What a load or a store meets.
-    pub(crate) fn meet(&self, request: Request) -> Encounter
+    /// A request with its line and the time of its transaction.
+    pub(crate) fn encounter(&self, request: Request) -> Encounter
         ensures access { result.access ≡ request.access }
-        ensures line { result.line
-            ≡ line_state B.kind (B.model self.now.book) request.line }
-        ensures time { result.time
-            ≡ time_of (state M.at B.kind B.model self.now) request.warp }
+        ensures line { result.line ≡ line_state B.kind (B.model self.now.book) request.line }
+        ensures time { result.time ≡ time_of (state M.at B.kind B.model self.now) request.warp }
     {
         Encounter {
             access: request.access,
@@ -43,7 +41,7 @@ impl<M: Memory, B: Book> Machine<M, B> {
         }
     }
 
-    /// The transaction is gone: it ends, and its warp goes on at the next stamp.
+    /// Ends a transaction that is gone; its warp restarts at the next stamp.
     fn end_as_gone(&mut self, warp: u32, cause: Cause, next: u64) -> Answer
         requires free { is_waiting (warp_row self.old.warps warp).phase ≡ false }
         requires bound { next ≤ highest_stamp }
@@ -57,7 +55,7 @@ impl<M: Memory, B: Book> Machine<M, B> {
         Answer::Gone { cause, next }
     }
 
-    /// A request joins the queue, and notes nothing yet.
+    /// Adds a request to the queue. The book learns nothing of it yet.
     fn join_queue(&mut self, request: Request)
         requires open { is_open (warp_row self.old.warps request.warp).phase ≡ true }
         requires room { has_room (warp_row self.old.warps request.warp) request.access ≡ true }
@@ -68,7 +66,7 @@ impl<M: Memory, B: Book> Machine<M, B> {
         self.warps.wait(request);
     }
 
-    /// How many requests may wait.
+    /// The limits of the queue.
     fn queue_limits(&self) -> QueueLimits
         ensures line { result.requests_per_line ≡ (policy_of B.kind self.now).line_room }
         ensures queue { result.lines ≡ (policy_of B.kind self.now).queue_room }
@@ -76,18 +74,17 @@ impl<M: Memory, B: Book> Machine<M, B> {
         QUEUE_LIMITS
     }
 
-    /// A load or a store that must wait: if the queue is full for the line, its transaction ends at its own stamp.
+    /// A load or a store that must wait. If the queue is full for its line, the transaction is
+    /// gone, and restarts at its own stamp.
     fn wait_or_end(&mut self, request: Request) -> Answer
         requires open { is_open (warp_row self.old.warps request.warp).phase ≡ true }
         requires room { has_room (warp_row self.old.warps request.warp) request.access ≡ true }
         ensures after { state M.at B.kind B.model self.new
             ≡ (wait_step (policy_of B.kind self.old)
-            (state M.at B.kind B.model self.old) request.warp request.line
-            request.access).machine }
+            (state M.at B.kind B.model self.old) request.warp request.line request.access).machine }
         ensures answer { Ok result
             ≡ (wait_step (policy_of B.kind self.old)
-            (state M.at B.kind B.model self.old) request.warp request.line
-            request.access).answer }
+            (state M.at B.kind B.model self.old) request.warp request.line request.access).answer }
         ensures memory { self.new.memory ≡ self.old.memory }
     {
         if self.warps.is_full(request.line, self.queue_limits()) {
@@ -98,14 +95,14 @@ impl<M: Memory, B: Book> Machine<M, B> {
         Answer::Wait
     }
 
-    /// What the access steps say of a load or a store now. Only a request that must wait asks the queue for room.
+    /// The verdict on a load or a store now, by the access steps and the room in the queue.
     pub fn verdict(&self, request: Request) -> Verdict
         ensures { result
             ≡ verdict_at (policy_of B.kind self.now)
             (state M.at B.kind B.model self.now) request.warp request.line
             request.access }
     {
-        match self.meet(request).decide() {
+        match self.encounter(request).decide() {
             Verdict::OwnLine => Verdict::OwnLine,
             Verdict::Gone { cause, next } => Verdict::Gone { cause, next },
             Verdict::MustWait => self.wait_verdict(request),
@@ -113,7 +110,7 @@ impl<M: Memory, B: Book> Machine<M, B> {
         }
     }
 
-    // The same of a request that must wait.
+    /// The verdict on a request that must wait, by the room in the queue.
     fn wait_verdict(&self, request: Request) -> Verdict
         ensures { result
             ≡ wait_verdict (policy_of B.kind self.now)
@@ -128,24 +125,20 @@ impl<M: Memory, B: Book> Machine<M, B> {
         }
     }
 
-    // That the warp is open and has room in its log are facts of the tables and the request together, which a type of
-    // neither could hold; so each step asks for them.
-    /// A load or a store of a warp that may go on.
+    /// A load or a store of an open warp.
     pub(crate) fn access(&mut self, request: Request) -> Answer
         requires inside { request.line < line_limit }
         requires open { is_open (warp_row self.old.warps request.warp).phase ≡ true }
         requires room { has_room (warp_row self.old.warps request.warp) request.access ≡ true }
         ensures after { state M.at B.kind B.model self.new
             ≡ (access_step (policy_of B.kind self.old)
-            (state M.at B.kind B.model self.old) request.warp request.line
-            request.access).machine }
+            (state M.at B.kind B.model self.old) request.warp request.line request.access).machine }
         ensures answer { Ok result
             ≡ (access_step (policy_of B.kind self.old)
-            (state M.at B.kind B.model self.old) request.warp request.line
-            request.access).answer }
+            (state M.at B.kind B.model self.old) request.warp request.line request.access).answer }
         ensures memory { self.new.memory ≡ self.old.memory }
     {
-        match self.meet(request).decide() {
+        match self.encounter(request).decide() {
             Verdict::OwnLine => self.serve_own(request).into(),
             Verdict::Gone { cause, next } => self.end_as_gone(request.warp, cause, next),
             Verdict::MustWait => self.wait_or_end(request),
@@ -153,8 +146,9 @@ impl<M: Memory, B: Book> Machine<M, B> {
         }
     }
 
-    /// Hands over a settled outcome: after a value or a store the warp goes on; gone, its transaction ends.
-    fn hand_over(&mut self, warp: u32, outcome: Outcome) -> Answer
+    /// Delivers a settled outcome. After a value or a store the warp is open again; a transaction
+    /// that is gone ends.
+    fn deliver(&mut self, warp: u32, outcome: Outcome) -> Answer
         requires settled { (warp_row self.old.warps warp).phase ≡ Settled outcome }
         requires bound { next_stamp outcome ≤ highest_stamp }
         ensures after { state M.at B.kind B.model self.new
@@ -174,8 +168,8 @@ impl<M: Memory, B: Book> Machine<M, B> {
         }
     }
 
-    /// The outcome of a load or a store that had to wait, once it is there.
-    pub(crate) fn hand_out(&mut self, warp: u32) -> Answer
+    /// The outcome of a load or a store that had to wait, once it is settled.
+    pub(crate) fn fetch_outcome(&mut self, warp: u32) -> Answer
         ensures after { state M.at B.kind B.model self.new
             ≡ (fetch_step (policy_of B.kind self.old)
             (state M.at B.kind B.model self.old) warp
@@ -187,7 +181,7 @@ impl<M: Memory, B: Book> Machine<M, B> {
         ensures memory { self.new.memory ≡ self.old.memory }
     {
         match self.warps.phase(warp) {
-            Phase::Settled { outcome } => self.hand_over(warp, outcome),
+            Phase::Settled { outcome } => self.deliver(warp, outcome),
             Phase::Idle | Phase::Open | Phase::Waiting => Answer::Wait,
         }
     }

@@ -1,6 +1,7 @@
-//! The six calls. A refusal comes as an error, with its fault, and changes nothing.
+//! The six calls. A refused call gives its fault as an error, and changes nothing.
 ghost use Rattle.std.specs.Prelude.{◌≡◌, None, Ok, OnErr};
-ghost use Rattle.protocol.specs.declared.call.Op.TheVariants.{Begin, Load, Store, Commit, Drop, Fetch};
+ghost use Rattle.protocol.specs.declared.call.Op.TheVariants.{Begin, Load, Store};
+ghost use Rattle.protocol.specs.declared.call.Op.TheVariants.{Commit, Drop, Fetch};
 ghost use Rattle.rules.specs.Refusals.{fault_of};
 ghost use Rattle.rules.specs.Steps.{accepted_step, step};
 ghost use Rattle.machine.specs.Meaning.{state, policy_of, loan};
@@ -13,8 +14,8 @@ use protocol::{Answer, Call, Fault, Op};
 use rules::{Access, Request};
 
 impl<M: Memory, B: Book> Machine<M, B> {
-    /// A call that is not refused.
-    fn grant(&mut self, call: Call) -> Answer
+    /// Executes a call that is not refused.
+    fn accept(&mut self, call: Call) -> Answer
         requires { fault_of (state M.at B.kind B.model self.old) call ≡ None }
         ensures after { state M.at B.kind B.model self.new
             ≡ (accepted_step (policy_of B.kind self.old)
@@ -22,8 +23,7 @@ impl<M: Memory, B: Book> Machine<M, B> {
         ensures answer { Ok result
             ≡ (accepted_step (policy_of B.kind self.old)
             (state M.at B.kind B.model self.old) call.warp call.op).answer }
-        ensures loan { loan M.lent M.spare self.new
-            ≡ loan M.lent M.spare self.old }
+        ensures loan { loan M.lent M.spare self.new ≡ loan M.lent M.spare self.old }
     {
         let Call { warp, op } = call;
         match op {
@@ -52,11 +52,11 @@ impl<M: Memory, B: Book> Machine<M, B> {
                 self.end(warp, stamp);
                 Answer::Done
             }
-            Op::Fetch => self.hand_out(warp),
+            Op::Fetch => self.fetch_outcome(warp),
         }
     }
 
-    /// Makes a call, or says why it is refused.
+    /// Executes a call, or reports why it is refused.
     pub fn call(&mut self, call: Call) -> Result<Answer, Fault>
         ensures after { state M.at B.kind B.model self.new
             ≡ (step (policy_of B.kind self.old)
@@ -65,11 +65,10 @@ impl<M: Memory, B: Book> Machine<M, B> {
             ≡ (step (policy_of B.kind self.old)
             (state M.at B.kind B.model self.old) call).answer }
         ensures unchanged { OnErr result (self.new ≡ self.old) }
-        ensures loan { loan M.lent M.spare self.new
-            ≡ loan M.lent M.spare self.old }
+        ensures loan { loan M.lent M.spare self.new ≡ loan M.lent M.spare self.old }
     {
         self.check(call)?;
-        Ok(self.grant(call))
+        Ok(self.accept(call))
     }
 
     /// Opens a transaction.
@@ -81,8 +80,7 @@ impl<M: Memory, B: Book> Machine<M, B> {
             ≡ (step_of (policy_of B.kind self.old)
             (state M.at B.kind B.model self.old) warp Begin).answer }
         ensures unchanged { OnErr result (self.new ≡ self.old) }
-        ensures loan { loan M.lent M.spare self.new
-            ≡ loan M.lent M.spare self.old }
+        ensures loan { loan M.lent M.spare self.new ≡ loan M.lent M.spare self.old }
     {
         self.call(Call {
             warp,
@@ -90,7 +88,7 @@ impl<M: Memory, B: Book> Machine<M, B> {
         })
     }
 
-    /// The value of a line.
+    /// Loads the value of a line.
     pub fn load(&mut self, warp: u32, line: u32) -> Result<Answer, Fault>
         ensures after { state M.at B.kind B.model self.new
             ≡ (step_of (policy_of B.kind self.old)
@@ -99,8 +97,7 @@ impl<M: Memory, B: Book> Machine<M, B> {
             ≡ (step_of (policy_of B.kind self.old)
             (state M.at B.kind B.model self.old) warp (Load line)).answer }
         ensures unchanged { OnErr result (self.new ≡ self.old) }
-        ensures loan { loan M.lent M.spare self.new
-            ≡ loan M.lent M.spare self.old }
+        ensures loan { loan M.lent M.spare self.new ≡ loan M.lent M.spare self.old }
     {
         self.call(Call {
             warp,
@@ -108,7 +105,7 @@ impl<M: Memory, B: Book> Machine<M, B> {
         })
     }
 
-    /// A new value for a line, once the transaction commits.
+    /// Stores a value to a line. Memory has it once the transaction commits.
     pub fn store(&mut self, warp: u32, line: u32, value: u32) -> Result<Answer, Fault>
         ensures after { state M.at B.kind B.model self.new
             ≡ (step_of (policy_of B.kind self.old)
@@ -117,8 +114,7 @@ impl<M: Memory, B: Book> Machine<M, B> {
             ≡ (step_of (policy_of B.kind self.old)
             (state M.at B.kind B.model self.old) warp (Store line value)).answer }
         ensures unchanged { OnErr result (self.new ≡ self.old) }
-        ensures loan { loan M.lent M.spare self.new
-            ≡ loan M.lent M.spare self.old }
+        ensures loan { loan M.lent M.spare self.new ≡ loan M.lent M.spare self.old }
     {
         self.call(Call {
             warp,
@@ -135,8 +131,7 @@ impl<M: Memory, B: Book> Machine<M, B> {
             ≡ (step_of (policy_of B.kind self.old)
             (state M.at B.kind B.model self.old) warp Commit).answer }
         ensures unchanged { OnErr result (self.new ≡ self.old) }
-        ensures loan { loan M.lent M.spare self.new
-            ≡ loan M.lent M.spare self.old }
+        ensures loan { loan M.lent M.spare self.new ≡ loan M.lent M.spare self.old }
     {
         self.call(Call {
             warp,
@@ -153,13 +148,12 @@ impl<M: Memory, B: Book> Machine<M, B> {
             ≡ (step_of (policy_of B.kind self.old)
             (state M.at B.kind B.model self.old) warp Drop).answer }
         ensures unchanged { OnErr result (self.new ≡ self.old) }
-        ensures loan { loan M.lent M.spare self.new
-            ≡ loan M.lent M.spare self.old }
+        ensures loan { loan M.lent M.spare self.new ≡ loan M.lent M.spare self.old }
     {
         self.call(Call { warp, op: Op::Drop })
     }
 
-    /// The outcome of a load or a store that had to wait.
+    /// Fetches the outcome of a load or a store that had to wait.
     pub fn fetch(&mut self, warp: u32) -> Result<Answer, Fault>
         ensures after { state M.at B.kind B.model self.new
             ≡ (step_of (policy_of B.kind self.old)
@@ -168,8 +162,7 @@ impl<M: Memory, B: Book> Machine<M, B> {
             ≡ (step_of (policy_of B.kind self.old)
             (state M.at B.kind B.model self.old) warp Fetch).answer }
         ensures unchanged { OnErr result (self.new ≡ self.old) }
-        ensures loan { loan M.lent M.spare self.new
-            ≡ loan M.lent M.spare self.old }
+        ensures loan { loan M.lent M.spare self.new ≡ loan M.lent M.spare self.old }
     {
         self.call(Call {
             warp,

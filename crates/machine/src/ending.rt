@@ -1,4 +1,5 @@
-//! The end of a transaction, over its lines: they are released, its row changes, and who waits for them is tried.
+//! The end of a transaction: its lines are released, its warp becomes idle, and the requests that
+//! wait for those lines are retried.
 ghost use Rattle.std.specs.Prelude.{◌≡◌, ◌<◌, ◌≤◌, false};
 ghost use Rattle.std.specs.List.{All};
 ghost use Rattle.protocol.specs.Limits.{line_limit};
@@ -13,9 +14,8 @@ use book::Book;
 use memory::Memory;
 
 impl<M: Memory, B: Book> Machine<M, B> {
-    // Of the shape of `release_all`: with the call as a closure, its contract would say the same of the closure.
-    /// Tries the requests that wait for some lines, line by line.
-    fn wake_all(&mut self, lines: &[u32])
+    /// Retries the requests that wait for some lines, line by line.
+    fn retry_lines(&mut self, lines: &[u32])
         requires { All (λ line. line < line_limit) lines.now }
         ensures after { state M.at B.kind B.model self.new
             ≡ (after_turns_at_lines (policy_of B.kind self.old)
@@ -23,12 +23,12 @@ impl<M: Memory, B: Book> Machine<M, B> {
         ensures memory { self.new.memory ≡ self.old.memory }
     {
         for line in lines {
-            self.wake(*line);
+            self.retry_line(*line);
         }
     }
 
-    /// A warp gives up some lines, and is idle at a stamp: first all of them are released, last those are tried that
-    /// wait for them.
+    /// Releases a warp's lines, makes the warp idle at a stamp, and then retries the requests that
+    /// wait for those lines.
     fn give_up(&mut self, warp: u32, stamp: u64, lines: &[u32])
         requires free { is_waiting (warp_row self.old.warps warp).phase ≡ false }
         requires bound { stamp ≤ highest_stamp }
@@ -40,11 +40,11 @@ impl<M: Memory, B: Book> Machine<M, B> {
         ensures memory { self.new.memory ≡ self.old.memory }
     {
         self.release_all(lines);
-        self.warps.rest(warp, stamp);
-        self.wake_all(lines);
+        self.warps.make_idle(warp, stamp);
+        self.retry_lines(lines);
     }
 
-    /// Ends a warp's transaction: it gives up the lines that it stored to. One without a store holds none.
+    /// Ends a warp's transaction. One without a store has no lines to give up.
     pub(crate) fn end(&mut self, warp: u32, stamp: u64)
         requires free { is_waiting (warp_row self.old.warps warp).phase ≡ false }
         requires bound { stamp ≤ highest_stamp }
@@ -54,7 +54,7 @@ impl<M: Memory, B: Book> Machine<M, B> {
         ensures memory { self.new.memory ≡ self.old.memory }
     {
         if self.warps.stored(warp) == 0 {
-            self.warps.rest(warp, stamp);
+            self.warps.make_idle(warp, stamp);
             return;
         }
         let lines = self.warps.log(warp).lines();

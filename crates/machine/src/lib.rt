@@ -3,13 +3,11 @@
 
 mod accesses;
 mod calls;
-mod changes;
 mod ending;
 mod lines;
 mod log;
 mod machine;
 mod making;
-mod new_warps;
 mod parts;
 mod questions;
 mod queue;
@@ -21,9 +19,10 @@ mod turn;
 mod verdict;
 mod warps;
 
+pub use log::{Log, Store};
 pub use machine::Machine;
 pub use queue::{Queue, QueueLimits};
-pub use row::{HIGHEST_STAMP, Log, Row, Store};
+pub use row::Row;
 pub use running::{Ran, run, run_to_vec};
 pub use verdict::Encounter;
 pub use warps::Warps;

@@ -1,40 +1,86 @@
-//! What a warp has stored and not yet committed, and its row in the warps' table.
-ghost use Rattle.std.specs.Prelude.{◌≡◌, ◌<◌, ◌≤◌, length};
-ghost use Rattle.protocol.specs.Limits.{line_limit, log_limit};
+//! A warp's row in the warps' table.
+ghost use Rattle.std.specs.Prelude.{◌≡◌, ◌≤◌, [], length};
+ghost use Rattle.protocol.specs.Limits.{log_limit};
+ghost use Rattle.rules.specs.State.{idle_row, row_in_phase};
 ghost use Rattle.machine.specs.Phases.{highest_stamp, highest_in, next_in};
 
+use crate::log::{Log, Store};
 use rules::Phase;
 
-/// No warp's stamp is above this, which is one more than the largest stamp that a book can tell.
-pub const HIGHEST_STAMP: u64 = 4_294_967_296;
-
-/// One store of a transaction, of a line that a book can number.
-#[derive(Clone, Copy, PartialEq, Eq, Debug)]
-pub struct Store {
-    pub line: u32,
-    pub value: u32,
-    ghost inside: { line < line_limit },
-}
-
-/// The stores of a transaction, in the order made. It is changed by value.
-#[derive(Clone, Copy)]
-pub struct Log {
-    pub(crate) len: usize,
-    pub(crate) stores: [Store; 32],
-    ghost size: { length stores ≡ 32 },
-    ghost room: { len ≤ log_limit },
-}
-
-/// A warp's row: what it is doing, its stamp, and its log as plain numbers.
-// A row is plain, a form that is fixed (docs/DECISIONS.md): an array of stores with their number beside, and no log.
+/// What a warp is doing, its stamp, and its log as plain numbers.
+// A fixed form (docs/DECISIONS.md): a plain row, with an array of stores and their number.
 #[derive(Clone, Copy)]
 pub struct Row {
     pub(crate) phase: Phase,
     pub(crate) stamp: u64,
     pub(crate) len: usize,
-    pub(crate) stores: [Store; 32],
+    stores: [Store; 32],
     ghost size: { length stores ≡ 32 },
     ghost room: { len ≤ log_limit },
     ghost on_time: { stamp ≤ highest_in phase },
     ghost next_on_time: { next_in phase ≤ highest_stamp },
+}
+
+// By hand, since a derived one is refused beside a ghost field.
+impl Default for Row {
+    ghost use Rattle.machine.specs.Rows.{warp_row_in};
+
+    ghost is_default = { λ row. warp_row_in row ≡ idle_row 0 };
+
+    fn default() -> Row {
+        Row::idle(0)
+    }
+}
+
+impl Row {
+    ghost use Rattle.machine.specs.Rows.{warp_row_in};
+
+    /// The row of a warp without a transaction.
+    pub(crate) fn idle(stamp: u64) -> Row
+        requires { stamp ≤ highest_stamp }
+        ensures { warp_row_in result ≡ idle_row stamp }
+    {
+        Row {
+            phase: Phase::Idle,
+            stamp,
+            len: 0,
+            stores: [Store::default(); 32],
+        }
+    }
+
+    /// The row's log, made after one check of its length.
+    pub(crate) fn log(&self) -> Log
+        ensures { result ≡ (warp_row_in self.now).log }
+    {
+        Log::of(self.len, &self.stores).unwrap()
+    }
+
+    /// Writes a log back to the row.
+    pub(crate) fn set_log(&mut self, log: Log)
+        ensures { warp_row_in self.new ≡ record (warp_row_in self.old) { log = log } }
+    {
+        self.len = log.len;
+        let stores = log.stores;
+        self.stores = stores;
+    }
+
+    /// Sets what the warp is doing.
+    pub(crate) fn set_phase(&mut self, phase: Phase)
+        requires stamp { (warp_row_in self.old).stamp ≤ highest_in phase }
+        requires next { next_in phase ≤ highest_stamp }
+        ensures { warp_row_in self.new ≡ row_in_phase (warp_row_in self.old) phase }
+    {
+        self.phase = phase;
+    }
+
+    /// Sets phase and stamp, and empties the log.
+    pub(crate) fn reset(&mut self, phase: Phase, stamp: u64)
+        requires stamp { stamp ≤ highest_in phase }
+        requires next { next_in phase ≤ highest_stamp }
+        ensures { warp_row_in self.new ≡ record { phase = phase; stamp = stamp; log = [] } }
+    {
+        self.phase = phase;
+        self.stamp = stamp;
+        self.len = 0;
+    }
 }

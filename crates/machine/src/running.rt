@@ -1,4 +1,4 @@
-//! Runs: a machine is made and makes a list of calls.
+//! Runs: a machine is made, and a list of calls is executed.
 ghost use Rattle.std.specs.Prelude.{◌≡◌, ◌≤◌, length, None, IfOk};
 ghost use Rattle.rules.specs.Making.{making_fault};
 ghost use Rattle.rules.specs.Runs.{run as run_from};
@@ -13,7 +13,7 @@ use memory::Memory;
 use protocol::{Answer, Call, Fault};
 use std::alloc::{AllocError, Global};
 
-/// What a run leaves: the machine, and what was wrong with its shape.
+/// The machine at the end of a run, and the fault of its shape, if it has one.
 #[derive(Drop)]
 pub struct Ran<M, B> {
     pub machine: Machine<M, B>,
@@ -21,7 +21,7 @@ pub struct Ran<M, B> {
 }
 
 impl<M: Memory, B: Book> Machine<M, B> {
-    /// Makes a list of calls, and puts each answer in its place.
+    /// Executes a list of calls, and puts each answer in its place.
     fn make_calls(&mut self, calls: &[Call], answers: &mut [Result<Answer, Fault>])
         requires { length calls.now ≤ length answers.old }
         ensures after { state M.at B.kind B.model self.new
@@ -30,8 +30,7 @@ impl<M: Memory, B: Book> Machine<M, B> {
         ensures answers { answers.new
             ≡ places_after (run_from (policy_of B.kind self.old)
             (state M.at B.kind B.model self.old) calls.now).events answers.old }
-        ensures loan { loan M.lent M.spare self.new
-            ≡ loan M.lent M.spare self.old }
+        ensures loan { loan M.lent M.spare self.new ≡ loan M.lent M.spare self.old }
     {
         for (place, call) in calls.iter().enumerate() {
             answers[place] = self.call(*call);
@@ -39,12 +38,17 @@ impl<M: Memory, B: Book> Machine<M, B> {
     }
 }
 
-/// Makes a machine and makes calls, as many as there are places for answers. It needs no memory of its own. Machine and
-/// answers are those of the rules, and the places behind the answers stay as they were. Whatever the memory and the
-/// book: the account of the run is that of its committed transactions run alone, exactly in the orders that keep logical
-/// time among those that clash, and there is such an order; from every waiting warp, stamps fall from holder to holder
-/// until one does not wait; the tables tell the account; a fetch tells what joined the account when it came out; and
-/// what the memory borrows stays borrowed, with all that is in no line as it was.
+/// Makes a machine and executes as many calls as there are places for answers. It allocates
+/// nothing. Machine and answers are those of the rules, and the places behind the answers keep what
+/// they had. With every memory and every book:
+///
+/// - the account of the run is that of its committed transactions executed one at a time, exactly
+///   in the orders that keep logical time between conflicting transactions, and there is such an
+///   order;
+/// - from every waiting warp, stamps fall from holder to holder until one does not wait;
+/// - the rows, the queue and the book agree with the account;
+/// - a fetch returns what joined the account when the request was settled;
+/// - what the memory borrows stays borrowed, and what is in none of its lines stays as it was.
 pub fn run<M: Memory, B: Book>(
     memory: M,
     book: B,
@@ -58,8 +62,7 @@ pub fn run<M: Memory, B: Book>(
     ensures answers { answers.new
         ≡ places_after (run_of B.kind (M.at memory) (B.model book) stamps.now
         (calls_made calls.now answers.old)).events answers.old }
-    ensures shape { result.shape
-        ≡ as_result (making_fault B.kind (B.model book) stamps.now) }
+    ensures shape { result.shape ≡ as_result (making_fault B.kind (B.model book) stamps.now) }
     ensures accounts { AccountsOf (M.at memory)
         (run_of B.kind (M.at memory) (B.model book) stamps.now
         (calls_made calls.now answers.old)) }
@@ -75,8 +78,7 @@ pub fn run<M: Memory, B: Book>(
     ensures fetches { FetchesOf
         (run_of B.kind (M.at memory) (B.model book) stamps.now
         (calls_made calls.now answers.old)) }
-    ensures loan { loan M.lent M.spare result.machine
-        ≡ (M.lent memory, M.spare memory) }
+    ensures loan { loan M.lent M.spare result.machine ≡ (M.lent memory, M.spare memory) }
 {
     let (mut machine, shape) = Machine::make(memory, book, stamps);
     let count = calls.len().min(answers.len());
@@ -84,7 +86,7 @@ pub fn run<M: Memory, B: Book>(
     Ran { machine, shape }
 }
 
-/// The same of all calls, with the answers in a vector.
+/// The same for all calls, with the answers in a vector. It fails only if memory runs out.
 pub fn run_to_vec<M: Memory + Drop, B: Book + Drop>(
     heap: Global,
     memory: M,
@@ -93,28 +95,21 @@ pub fn run_to_vec<M: Memory + Drop, B: Book + Drop>(
     calls: &[Call],
 ) -> Result<(Ran<M, B>, Vec<Result<Answer, Fault>>), AllocError>
     ensures machine { IfOk result (λ ran. state M.at B.kind B.model ran.0.machine
-        ≡ (run_of B.kind (M.at memory) (B.model book) stamps.now
-        calls.now).machine) }
+        ≡ (run_of B.kind (M.at memory) (B.model book) stamps.now calls.now).machine) }
     ensures answers { IfOk result (λ ran. ran.1.items
-        ≡ answers_in (run_of B.kind (M.at memory) (B.model book) stamps.now
-        calls.now).events) }
+        ≡ answers_in (run_of B.kind (M.at memory) (B.model book) stamps.now calls.now).events) }
     ensures shape { IfOk result (λ ran. ran.0.shape
         ≡ as_result (making_fault B.kind (B.model book) stamps.now)) }
     ensures accounts { AccountsOf (M.at memory)
-        (run_of B.kind (M.at memory) (B.model book) stamps.now
-        calls.now) }
+        (run_of B.kind (M.at memory) (B.model book) stamps.now calls.now) }
     ensures explained { ExplainedOf (M.at memory)
-        (run_of B.kind (M.at memory) (B.model book) stamps.now
-        calls.now) }
+        (run_of B.kind (M.at memory) (B.model book) stamps.now calls.now) }
     ensures waits { WaitsOf
-        (run_of B.kind (M.at memory) (B.model book) stamps.now
-        calls.now) }
+        (run_of B.kind (M.at memory) (B.model book) stamps.now calls.now) }
     ensures tables { making_fault B.kind (B.model book) stamps.now ≡ None → TablesOf
-        (run_of B.kind (M.at memory) (B.model book) stamps.now
-        calls.now) }
+        (run_of B.kind (M.at memory) (B.model book) stamps.now calls.now) }
     ensures fetches { FetchesOf
-        (run_of B.kind (M.at memory) (B.model book) stamps.now
-        calls.now) }
+        (run_of B.kind (M.at memory) (B.model book) stamps.now calls.now) }
     ensures loan { IfOk result (λ ran. loan M.lent M.spare ran.0.machine
         ≡ (M.lent memory, M.spare memory)) }
 {

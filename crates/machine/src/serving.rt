@@ -1,4 +1,4 @@
-//! Loads and stores that go on, and the tries of those that waited.
+//! Loads and stores that go on, and the retries of those that waited.
 ghost use Rattle.std.specs.Prelude.{◌≡◌, ◌<◌, ◌≤◌, true};
 ghost use Rattle.protocol.specs.Limits.{line_limit};
 ghost use Rattle.rules.specs.State.{is_waiting};
@@ -7,36 +7,35 @@ ghost use Rattle.rules.specs.Serving.{served_on_free_line, served_on_own_line};
 ghost use Rattle.machine.specs.Phases.{highest_stamp, next_stamp, is_open};
 ghost use Rattle.machine.specs.Warps.{warp_row, has_room};
 ghost use Rattle.machine.specs.Meaning.{state, policy_of};
-ghost use Rattle.machine.specs.CallParts.{machine_after_turn, machine_after_turns, after_serving, with_outcome_set};
+ghost use Rattle.machine.specs.CallParts.{machine_after_turn, machine_after_turns};
+ghost use Rattle.machine.specs.CallParts.{after_serving, with_outcome_set};
 
+use crate::log::Store;
 use crate::machine::Machine;
-use crate::row::Store;
 use book::Book;
 use memory::Memory;
 use protocol::Outcome;
 use rules::{Access, Request, Verdict};
 
 impl<M: Memory, B: Book> Machine<M, B> {
-    // A line is a plain number in every rule: a type for those below the limit would put its field's name into each
-    // clause, in place of one condition.
-    /// On a line that is nobody's: a load gives the memory's value, a store reserves the line.
+    /// On a line that is not reserved: a load gives the memory's value, a store reserves the line.
     pub(crate) fn serve(&mut self, request: Request) -> Outcome
         requires inside { request.line < line_limit }
         requires open { is_open (warp_row self.old.warps request.warp).phase ≡ true }
         requires room { has_room (warp_row self.old.warps request.warp) request.access ≡ true }
         ensures after { state M.at B.kind B.model self.new
-            ≡ (served_on_free_line (state M.at B.kind B.model self.old) request.warp
-            request.line request.access).machine }
+            ≡ (served_on_free_line (state M.at B.kind B.model self.old) request.warp request.line
+            request.access).machine }
         ensures answer { result
-            ≡ (served_on_free_line (state M.at B.kind B.model self.old) request.warp
-            request.line request.access).outcome }
+            ≡ (served_on_free_line (state M.at B.kind B.model self.old) request.warp request.line
+            request.access).outcome }
         ensures memory { self.new.memory ≡ self.old.memory }
     {
         let Request { warp, line, access } = request;
         match access {
             Access::Read => {
                 let value = self.memory_value(line);
-                self.note(warp, line);
+                self.note_read(warp, line);
                 Outcome::Value { value }
             }
             Access::Write { value } => {
@@ -47,9 +46,8 @@ impl<M: Memory, B: Book> Machine<M, B> {
         }
     }
 
-    // Of the shape of `serve`, but of another value and another call of the book: passed as closures, both would need
-    // contracts of their own, and the match would still be there.
-    /// On the warp's own line: a load gives the last value that it logged there, a store is added to the count.
+    /// On a line that is reserved for the warp itself: a load gives the last value that it logged
+    /// there, a store is counted.
     pub(crate) fn serve_own(&mut self, request: Request) -> Outcome
         requires inside { request.line < line_limit }
         requires open { is_open (warp_row self.old.warps request.warp).phase ≡ true }
@@ -66,7 +64,7 @@ impl<M: Memory, B: Book> Machine<M, B> {
         match access {
             Access::Read => {
                 let value = self.own_value(warp, line);
-                self.note(warp, line);
+                self.note_read(warp, line);
                 Outcome::Value { value }
             }
             Access::Write { value } => {
@@ -77,7 +75,7 @@ impl<M: Memory, B: Book> Machine<M, B> {
         }
     }
 
-    /// A request leaves the queue, and its warp is open again.
+    /// Removes a warp's request from the queue; the warp is open again.
     fn withdraw(&mut self, warp: u32)
         requires { is_waiting (warp_row self.old.warps warp).phase ≡ true }
         ensures after { state M.at B.kind B.model self.new
@@ -87,7 +85,7 @@ impl<M: Memory, B: Book> Machine<M, B> {
         self.warps.withdraw(warp);
     }
 
-    /// An open warp has an outcome to fetch.
+    /// Gives an open warp an outcome to fetch.
     fn settle(&mut self, warp: u32, outcome: Outcome)
         requires open { is_open (warp_row self.old.warps warp).phase ≡ true }
         requires bound { next_stamp outcome ≤ highest_stamp }
@@ -98,7 +96,7 @@ impl<M: Memory, B: Book> Machine<M, B> {
         self.warps.settle(warp, outcome);
     }
 
-    /// A request comes out: it is withdrawn, and its warp has the outcome to fetch, at the stamp that it had.
+    /// Settles a request that waits. Its warp keeps its stamp until it fetches the outcome.
     fn withdraw_and_settle(&mut self, warp: u32, outcome: Outcome)
         requires waiting { is_waiting (warp_row self.old.warps warp).phase ≡ true }
         requires bound { next_stamp outcome ≤ highest_stamp }
@@ -110,14 +108,14 @@ impl<M: Memory, B: Book> Machine<M, B> {
         self.settle(warp, outcome);
     }
 
-    /// A request that waited goes on: it is withdrawn, served as any other, and its warp has the outcome to fetch.
+    /// Serves a request that waited as any other, and settles it.
     fn serve_waiting(&mut self, request: Request)
         requires inside { request.line < line_limit }
         requires waiting { is_waiting (warp_row self.old.warps request.warp).phase ≡ true }
         requires room { has_room (warp_row self.old.warps request.warp) request.access ≡ true }
         ensures after { state M.at B.kind B.model self.new
-            ≡ after_serving (state M.at B.kind B.model self.old) request.warp
-            request.line request.access }
+            ≡ after_serving (state M.at B.kind B.model self.old) request.warp request.line
+            request.access }
         ensures memory { self.new.memory ≡ self.old.memory }
     {
         self.withdraw(request.warp);
@@ -125,7 +123,7 @@ impl<M: Memory, B: Book> Machine<M, B> {
         self.settle(request.warp, outcome);
     }
 
-    /// A warp's turn at a line; it is passed over unless it waits there.
+    /// Retries the request of a warp, if it waits for the line.
     fn try_turn(&mut self, line: u32, warp: u32)
         requires { line < line_limit }
         ensures after { state M.at B.kind B.model self.new
@@ -136,7 +134,7 @@ impl<M: Memory, B: Book> Machine<M, B> {
             return;
         };
         let request = Request { warp, line, access };
-        match self.meet(request).retried() {
+        match self.encounter(request).retried() {
             Verdict::Gone { cause, next } => self.withdraw_and_settle(
                 warp,
                 Outcome::Gone { cause, next },
@@ -146,7 +144,7 @@ impl<M: Memory, B: Book> Machine<M, B> {
         }
     }
 
-    /// Every turn at a line.
+    /// Retries the requests that wait for a line, in turn.
     fn try_turns(&mut self, line: u32)
         requires { line < line_limit }
         ensures after { state M.at B.kind B.model self.new
@@ -160,8 +158,8 @@ impl<M: Memory, B: Book> Machine<M, B> {
         }
     }
 
-    /// The turns at a line, if anybody waits there.
-    pub(crate) fn wake(&mut self, line: u32)
+    /// The same, without the cost of an order if no request waits for the line.
+    pub(crate) fn retry_line(&mut self, line: u32)
         requires { line < line_limit }
         ensures after { state M.at B.kind B.model self.new
             ≡ machine_after_turns (policy_of B.kind self.old)

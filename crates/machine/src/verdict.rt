@@ -1,4 +1,4 @@
-//! The access steps: what a load or a store meets at its line. The first step that applies decides.
+//! The access steps, which give a load or a store its verdict. The first step that applies decides.
 ghost use Rattle.std.specs.Prelude.{◌≡◌, ◌≤◌};
 ghost use Rattle.rules.specs.Access.{stamp_past, unowned, by_owner, by_mark, retried, decide};
 ghost use Rattle.machine.specs.Phases.{highest_stamp};
@@ -8,11 +8,11 @@ use book::LineState;
 use protocol::Cause;
 use rules::{Access, Verdict};
 
-/// What a load or a store meets at its line.
+/// A load or a store, its line, and the time of its transaction.
 #[derive(Clone, Copy)]
 pub struct Encounter {
     pub access: Access,
-    /// What the book tells of the line.
+    /// What the book says of the line.
     pub line: LineState,
     /// The logical time of the transaction: a pair of stamp and warp.
     pub time: (u64, u32),
@@ -20,7 +20,7 @@ pub struct Encounter {
 }
 
 impl Encounter {
-    /// All steps, in their order: first the warp's own line.
+    /// All steps, in their order. The first: the line is reserved for the warp itself.
     pub fn decide(self) -> Verdict
         ensures value { result ≡ decide self.access self.line self.time }
         ensures bound { NextWithin highest_stamp result }
@@ -32,10 +32,10 @@ impl Encounter {
         }
     }
 
-    /// Nothing comes before a write that is logically later. A request that waited is tried from here on.
+    /// The second step, and the first of a retry: a logically later transaction wrote the line, so
+    /// this one is gone.
     pub fn retried(self) -> Verdict
-        ensures value { result
-            ≡ retried self.access self.line self.time }
+        ensures value { result ≡ retried self.access self.line self.time }
         ensures bound { NextWithin highest_stamp result }
     {
         let (stamp, _) = self.time;
@@ -48,10 +48,9 @@ impl Encounter {
         self.by_mark()
     }
 
-    /// A store must not come before a read that is logically later.
+    /// A store to a line that a logically later transaction read: its transaction is gone.
     fn by_mark(self) -> Verdict
-        ensures value { result
-            ≡ by_mark self.access self.line self.time }
+        ensures value { result ≡ by_mark self.access self.line self.time }
         ensures bound { NextWithin highest_stamp result }
     {
         let (read, by) = self.line.read_mark;
@@ -64,10 +63,9 @@ impl Encounter {
         }
     }
 
-    /// The line is another warp's: the request must wait.
+    /// A line that is reserved for another warp: the request must wait.
     fn by_owner(self) -> Verdict
-        ensures value { result
-            ≡ by_owner self.line.owner self.access self.line self.time }
+        ensures value { result ≡ by_owner self.line.owner self.access self.line self.time }
         ensures bound { NextWithin highest_stamp result }
     {
         match self.line.owner {
@@ -76,7 +74,7 @@ impl Encounter {
         }
     }
 
-    /// The line is nobody's: a load goes on, a store too if the line has a slot.
+    /// A line that is not reserved: a load goes on, and so does a store if the line has a slot.
     fn unowned(self) -> Verdict
         ensures value { result ≡ unowned self.access self.line self.time }
         ensures bound { NextWithin highest_stamp result }
@@ -91,7 +89,7 @@ impl Encounter {
         }
     }
 
-    /// The stamp after a loss to a later time: past the line's write stamp, and for a store past its read mark too.
+    /// The stamp to restart at: past the line's write stamp, and for a store its read mark too.
     fn past(self) -> u64
         ensures value { result ≡ stamp_past self.access self.line }
         ensures bound { result ≤ highest_stamp }

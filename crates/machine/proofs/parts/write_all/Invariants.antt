@@ -1,7 +1,7 @@
 -- The stores so far are written, and what is borrowed stays.
 use Rattle.std.proofs.Common.{◌≡◌, map, take}
 use Rattle.rules.specs.Steps.{lines_after_stores}
-use Rattle.machine.specs.Rows.{store_entry}
+use Rattle.machine.specs.Logs.{store_entry}
 use Rattle.machine.proofs.parts.write_all.Given as goal
 
 abbrev pub invariant-loop-store : goal.invariant-loop-store

@@ -1,4 +1,4 @@
--- The laws, of the calls that are made.
+-- The laws of the calls that are made.
 use Rattle.rules.proofs.AccountsLaw.{law_of_accounts}
 use Rattle.rules.proofs.Explanation.{law_of_explanation}
 use Rattle.rules.proofs.Fetches.{law_of_fetches}

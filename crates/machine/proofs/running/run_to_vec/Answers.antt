@@ -1,4 +1,4 @@
--- There is a place for each call; and the laws, of all calls.
+-- There is a place for each call, so the laws are those of all calls.
 use Rattle.std.proofs.Common.{◌∙◌}
 use Rattle.rules.proofs.AccountsLaw.{law_of_accounts}
 use Rattle.rules.proofs.Explanation.{law_of_explanation}
@@ -8,12 +8,12 @@ use Rattle.rules.proofs.TablesLaw.{law_of_tables}
 use Rattle.rules.proofs.WaitsLaw.{law_of_waits}
 use Rattle.rules.specs.Queue.{product_policy}
 use Rattle.rules.specs.Making.{new_machine}
-use Rattle.machine.proofs.Runs.{all_answered}
+use Rattle.machine.proofs.Runs.{answers_of_all}
 use Rattle.machine.proofs.running.run_to_vec.Goals as goal
 
 pub returns-clause-answers : goal.returns-clause-answers
 returns-clause-answers g c =
-    all_answered (product_policy g.B.Book.kind)
+    answers_of_all (product_policy g.B.Book.kind)
     (new_machine g.B.Book.kind (g.M.Memory.at c.args.memory) (g.B.Book.model c.args.book) c.args.stamps.now)
     c.as_mut_slice.result.now c.args.calls.now _ _ _ (c.as_mut_slice.ensures.len ∙ c.in_ok-answers.ensures.len)
     c.in_ok-answers.ensures.len c.run-ran.ensures.answers

@@ -5,7 +5,7 @@ use Rattle.rules.specs.Steps.{Step}
 use Rattle.rules.specs.Refusals.{fault_of}
 use Rattle.machine.specs.Meaning.{state, policy_of}
 use Rattle.machine.specs.CallParts.{as_result}
-use Rattle.machine.proofs.Granted.{granted_step, refused_stays, refused_says, refused_at}
+use Rattle.machine.proofs.CheckedCalls.{accepted_step_is, refused_machine, refused_answer, refused_at}
 use Rattle.machine.proofs.machine.Machine.call.Goals as goal
 
 pub returns-in_err-check : goal.returns-in_err-check
@@ -15,8 +15,8 @@ returns-in_err-check g c =
     let p = err_from_is_err_and c.from_residual.result c.from_residual.ensures.1 in
     let why : Err p.0 ≡ as_result (fault_of m c.args.call) = ap Err p.2 ∙ c.in_err-check.ensures in
     record {
-      after = refused_stays policy m c.args.call p.0 why;
-      answer = p.1 ∙ refused_says policy m c.args.call p.0 why;
+      after = refused_machine policy m c.args.call p.0 why;
+      answer = p.1 ∙ refused_answer policy m c.args.call p.0 why;
       unchanged = refused_at c.from_residual.result p.0 _ p.1 refl;
       loan = refl;
     }
@@ -24,10 +24,10 @@ returns-in_err-check g c =
 pub returns : goal.returns
 returns g c =
     let m = state g.M.Memory.at g.B.Book.kind g.B.Book.model c.args.self.now in
-    let is = granted_step (policy_of g.B.Book.kind c.args.self.now) m c.args.call c.in_ok-check.ensures in
+    let is = accepted_step_is (policy_of g.B.Book.kind c.args.self.now) m c.args.call c.in_ok-check.ensures in
     record {
-      after = c.grant.ensures.after ∙ ap (λ (s : Step _). s.machine) is;
-      answer = c.grant.ensures.answer ∙ ap (λ (s : Step _). s.answer) is;
+      after = c.accept.ensures.after ∙ ap (λ (s : Step _). s.machine) is;
+      answer = c.accept.ensures.answer ∙ ap (λ (s : Step _). s.answer) is;
       unchanged = tt;
-      loan = c.grant.ensures.loan;
+      loan = c.accept.ensures.loan;
     }

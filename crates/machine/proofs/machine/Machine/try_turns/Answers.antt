@@ -1,9 +1,9 @@
--- The turns had are all.
+-- All turns were tried.
 use Rattle.std.proofs.Common.{fold, sym, ap, ◌∙◌, arith}
 use Rattle.std.proofs.lemmas.List.{take_all}
 use Rattle.machine.specs.Meaning.{state, policy_of}
 use Rattle.machine.specs.CallParts.{machine_after_turn}
-use Rattle.machine.proofs.Turning.{wake_is}
+use Rattle.machine.proofs.Retries.{machine_after_turns-fold}
 use Rattle.machine.proofs.machine.Machine.try_turns.Goals as goal
 
 pub returns-clause-after : goal.returns-clause-after
@@ -14,4 +14,4 @@ returns-clause-after g c =
     l.invariant.after
     ∙ ap (fold (machine_after_turn c.args.line) m)
     (all ∙ c.as_slice-warp-items.ensures.value ∙ c.turns-turns.ensures)
-    ∙ sym (wake_is (policy_of g.B.Book.kind c.args.self.now) m c.args.line)
+    ∙ sym (machine_after_turns-fold (policy_of g.B.Book.kind c.args.self.now) m c.args.line)

@@ -1,4 +1,4 @@
--- The turns so far are had.
+-- The turns so far were tried.
 use Rattle.std.proofs.Common.{◌≡◌, take, fold}
 use Rattle.machine.specs.Meaning.{state}
 use Rattle.machine.specs.CallParts.{machine_after_turn}

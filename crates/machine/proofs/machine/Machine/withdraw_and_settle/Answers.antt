@@ -4,7 +4,7 @@ use Rattle.rules.specs.State.{Machine, warp_row_of}
 use Rattle.machine.specs.Phases.{is_open}
 use Rattle.machine.specs.Meaning.{state}
 use Rattle.machine.specs.CallParts.{with_outcome_set}
-use Rattle.machine.proofs.Withdrawn.{comes_out_is, withdrawn_open}
+use Rattle.machine.proofs.Withdrawals.{settling_is, withdrawn_open}
 use Rattle.machine.proofs.machine.Machine.withdraw_and_settle.Goals as goal
 
 pub settle-requires-clause-open : goal.settle-requires-clause-open
@@ -15,5 +15,5 @@ settle-requires-clause-open g c =
 
 pub returns-clause-after : goal.returns-clause-after
 returns-clause-after g c =
-    comes_out_is (state g.M.Memory.at g.B.Book.kind g.B.Book.model c.args.self.now) c.args.warp _ c.args.outcome
+    settling_is (state g.M.Memory.at g.B.Book.kind g.B.Book.model c.args.self.now) c.args.warp _ c.args.outcome
     (c.settle.ensures.after ∙ ap (λ x. with_outcome_set x c.args.warp c.args.outcome) c.withdraw.ensures.after)

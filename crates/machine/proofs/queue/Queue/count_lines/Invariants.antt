@@ -1,7 +1,7 @@
 -- The lines so far are listed, each once.
 use Rattle.std.proofs.Common.{◌≡◌, ◌≤◌, length, take}
 use Rattle.rules.specs.Lists.{distinct_numbers}
-use Rattle.machine.specs.Lists.{waiting_lines}
+use Rattle.machine.specs.Requests.{waiting_lines}
 use Rattle.machine.proofs.queue.Queue.count_lines.Given as goal
 
 abbrev pub invariant-loop-request : goal.invariant-loop-request

@@ -1,8 +1,0 @@
--- The stores so far are looked through.
-use Rattle.std.proofs.Common.{◌≡◌, map, take}
-use Rattle.rules.specs.Logs.{last_stored}
-use Rattle.machine.specs.Rows.{store_entry}
-use Rattle.machine.proofs.row.Log.latest.Given as goal
-
-abbrev pub invariant-loop-store : goal.invariant-loop-store
-invariant-loop-store l = l.found ≡ last_stored (map store_entry (take l.store-index l.store-items)) l.line

@@ -1,5 +1,6 @@
 -- Rows that are added at the end of a text.
-use Rattle.std.proofs.Common.{◌≡◌, ℕ, ◌+◌, List, [], ◌++◌, Some, None, Option, Ok, Err, Result, IfOk, string_bytes}
+use Rattle.std.proofs.Common.{◌≡◌, ℕ, ◌+◌, List, [], ◌++◌, Some, None, Option, Ok, Err, Result}
+use Rattle.std.proofs.Common.{IfOk, string_bytes}
 use Rattle.std.proofs.Common.{append_assoc, append-nil, refl, sym, ap, ◌∙◌, subst, add-one}
 use Rattle.std.specs.Option.{ok_or}
 use Rattle.std.specs.declared.string.String.{String}
@@ -38,23 +39,6 @@ module _ {A E : Type 0} where
       → IfOk r (λ t. P (string_bytes t)) → IfOk r (λ t. Q (string_bytes t))
   IfOk-map (Ok t) P Q follows h = follows (string_bytes t) h
   IfOk-map (Err error) P Q follows h = tt
-
-  -- A note under a row.
-  pub adds_note_under :
-      (r : Result (String A) E) (row row' old mid : List ℕ) → mid ≡ old ++ row → row ≡ row'
-      → IfOk r (λ t. AddsNote mid (string_bytes t)) → IfOk r (λ t. AddsRow row' old (string_bytes t))
-  adds_note_under r row row' old mid e same h =
-      IfOk-map r (AddsNote mid) (AddsRow row' old)
-      (λ new (g : AddsNote mid new).
-      record {
-        note = g.note;
-        is_note = g.is_note;
-        grown =
-            g.grown
-            ∙ ap (λ t. t ++ g.note) (e ∙ ap (λ t. old ++ t) same)
-            ∙ append_assoc old row' g.note;
-      })
-      h
 
   -- The line that a memory has.
   pub adds_line_row :

@@ -1,5 +1,6 @@
 -- The rows of a run, call by call, and the text that has them.
-use Rattle.std.proofs.Common.{◌≡◌, ℕ, ◌+◌, ◌<◌, ◌≤◌, List, [], ◌∷◌, ◌++◌, length, drop, Option, IfOk}
+use Rattle.std.proofs.Common.{◌≡◌, ℕ, ◌+◌, ◌<◌, ◌≤◌, List, [], ◌∷◌, ◌++◌, length, drop, Option}
+use Rattle.std.proofs.Common.{IfOk}
 use Rattle.std.proofs.Common.{Result, string_bytes, fold, subst, append_assoc, append-nil}
 use Rattle.std.proofs.Common.{refl, sym, ap, ◌∙◌, add-one, drop-cons, slice_index_or}
 use Rattle.std.proofs.lemmas.List.{drop_all, map_push}
@@ -21,7 +22,8 @@ use Rattle.explain.proofs.Rows.{call_row_kept}
 use Rattle.explain.proofs.Scan.{row_with_note, more_rows}
 
 module _ {k : Kind} where
-  -- The rows of calls from a place on, each made of the machine that those before it leave, and of the end.
+  -- The rows of calls from a place on, each made of the machine that those before it leave, and of
+  -- the end.
   unfoldable pub rows_from : ℕ → Machine k → List Call → Option Fault → ℕ → List ℕ
   rows_from place m [] found limit = end_rows found m.lines limit
   rows_from place m (call ∷ calls) found limit =

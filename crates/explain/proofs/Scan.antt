@@ -4,8 +4,10 @@ use Rattle.std.proofs.Common.{append_assoc, append-nil, refl, sym, ap, ◌∙◌
 use Rattle.std.specs.Str.Iter.{LacksByte}
 use Rattle.std.proofs.lemmas.Bool.Decides.{nat_tests}
 use Rattle.std.proofs.lemmas.List.Elements.{All-head, All-tail}
-use Rattle.explain.specs.Notes.{Place, at_start, in_row, in_note, place_after, kept_byte, kept_from, without_notes}
-use Rattle.explain.specs.Notes.{with_feeds, is_note, lines_without_notes, DropsNotes, indented, indented_line}
+use Rattle.explain.specs.Notes.{Place, at_start, in_row, in_note, place_after, kept_byte, kept_from}
+use Rattle.explain.specs.Notes.{without_notes}
+use Rattle.explain.specs.Notes.{with_feeds, is_note, lines_without_notes, DropsNotes, indented}
+use Rattle.explain.specs.Notes.{indented_line}
 use Rattle.explain.specs.Notes.{IsNote, AddsRow, AddsRows}
 
 -- Of bytes that begin at a place some are kept, and what follows them begins at another.

@@ -31,7 +31,8 @@ module _ {k : Kind} where
   abbrev pub all_waits : Machine k → List Wait
   all_waits m = map (wait_of m) (all_waiting m)
 
-  -- The facts are what a call has left in the machine. The requests that waited before it are given.
+  -- The facts are what a call has left in the machine. The requests that waited before it are
+  -- given.
   pub record IsAfter (m : Machine k) (waited : List Request) (facts : After) : Type 0 where
     pub settled : vec_items facts.settled ≡ all_settled m waited
     pub waits : vec_items facts.waits ≡ all_waits m

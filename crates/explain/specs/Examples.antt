@@ -3,7 +3,8 @@ use Rattle.std.specs.Prelude.{◌≡◌, [], codes}
 use Rattle.explain.specs.Notes.{without_notes}
 
 pub record ByExample : Type 0 where
-  -- A text of rows stays as it is: also empty lines, blanks within a row, and a last row without a line feed.
+  -- A text of rows stays as it is: also empty lines, blanks within a row, and a last row without a
+  -- line feed.
   pub nothing : without_notes [] ≡ []
   pub rows : without_notes (codes "1 B 0 ok\nmem 0 7\n") ≡ codes "1 B 0 ok\nmem 0 7\n"
   pub empty_lines : without_notes (codes "\n\n1 B 0 ok\n\n") ≡ codes "\n\n1 B 0 ok\n\n"

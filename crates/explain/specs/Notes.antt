@@ -1,5 +1,6 @@
 -- A text of rows and notes. A note is a line that begins with a blank; a row is any other line.
-use Rattle.std.specs.Prelude.{◌≡◌, ℕ, Bool, false, cond, not, List, [], ◌∷◌, ◌++◌, codes, filter, All, ◌==◌}
+use Rattle.std.specs.Prelude.{◌≡◌, ℕ, Bool, false, cond, not, List, [], ◌∷◌, ◌++◌, codes, filter}
+use Rattle.std.specs.Prelude.{All, ◌==◌}
 use Rattle.std.specs.List.{flat_map}
 use Rattle.std.specs.Str.Iter.{LacksByte}
 
@@ -48,8 +49,9 @@ is_note (byte ∷ rest) = byte == 32
 abbrev pub lines_without_notes : List (List ℕ) → List (List ℕ)
 lines_without_notes lines = filter (λ line. not (is_note line)) lines
 
--- Every text is some lines, each with its line feed, and a last line without one. Without its notes it is the text of its
--- rows, unchanged and in their order; the last line is left out too if it is a note.
+-- Every text is some lines, each with its line feed, and a last line without one. Without its notes
+-- it is the text of its rows, unchanged and in their order; the last line is left out too if it is
+-- a note.
 abbrev pub DropsNotes : Type 0
 DropsNotes =
     (lines : List (List ℕ)) (last : List ℕ) → All (LacksByte 10) lines → LacksByte 10 last
@@ -80,7 +82,8 @@ pub record AddsRow (row old new : List ℕ) : Type 0 where
   pub is_note : IsNote note
   pub grown : new ≡ old ++ (row ++ note)
 
--- The new text is the old one with lines after it that are these rows without their notes, whatever follows.
+-- The new text is the old one with lines after it that are these rows without their notes, whatever
+-- follows.
 pub record AddsRows (rows old new : List ℕ) : Type 0 where
   pub lines : List ℕ
   pub grown : new ≡ old ++ lines

@@ -16,8 +16,8 @@ use memory::Memory;
 use protocol::Fault;
 use std::alloc::{AllocError, Global};
 
-/// The explanation of a calls file: its listing, and under each row, indented, why it is as it is. The only error is that
-/// memory runs out.
+/// The explanation of a calls file: its listing, and under each row, indented, why it is as it is.
+/// The only error is that memory runs out.
 #[tactic(auto, using(crate::proofs::Scan::drops_notes, crate::proofs::Examples::by_example))]
 pub fn annotate(heap: Global, bytes: &[u8]) -> Result<String, AllocError>
     ensures listing { IfOk result (λ t. without_notes (string_bytes t) ≡ listing_text bytes.now) }

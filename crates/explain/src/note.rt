@@ -5,7 +5,8 @@ ghost use Rattle.explain.specs.Notes.{AddsNote, indented_line};
 use std::alloc::{AllocError, Global};
 use std::fmt;
 
-/// Adds a note to the text, each of its lines indented by four blanks. If memory runs out, the text is lost.
+/// Adds a note to the text, each of its lines indented by four blanks. If memory runs out, the text
+/// is lost.
 #[tactic(auto, using(crate::proofs::Lines::no_line, crate::proofs::Lines::one_more, crate::proofs::Lines::no_feed))]
 pub fn add_note(heap: Global, text: String, note: &impl fmt::Display) -> Result<String, AllocError>
     ensures { IfOk result (λ t. AddsNote (string_bytes text) (string_bytes t)) }

@@ -14,8 +14,8 @@ use memory::Memory;
 use protocol::Call;
 use std::alloc::{AllocError, Global};
 
-/// Makes a call of the machine, and adds its row and a note to the text: what the call means, what it found and what it
-/// left. If memory runs out, the text is lost.
+/// Makes a call of the machine, and adds its row and a note to the text: what the call means, what
+/// it found and what it left. If memory runs out, the text is lost.
 pub fn add_row<M: Memory, B: Book>(
     heap: Global,
     text: String,

@@ -1,8 +1,9 @@
 -- How far two lists of rows are known to be the same.
 use Rattle.std.proofs.Common.{◌≡◌, ℕ, ◌+◌, List, [], ◌∷◌, ◌++◌, length, append_assoc, append-nil}
-use Rattle.std.proofs.Common.{length-append, Bool, true, false, eqb, refl, sym, ap, ◌∙◌, arith, Option}
+use Rattle.std.proofs.Common.{length-append, Bool, true, false, eqb, refl, sym, ap, ◌∙◌, arith}
+use Rattle.std.proofs.Common.{Option}
 use Rattle.std.specs.Prelude.{◌≢◌}
-use Rattle.report.specs.Rows.{rows_of, joined}
+use Rattle.report.specs.Rows.{rows_of, with_byte}
 use Rattle.std.proofs.lemmas.List.{append_cancel_left}
 use Rattle.report.specs.Compared.{FirstDiffers, MatchIsExact, first_row}
 use Rattle.report.specs.declared.compare.Comparison.TheVariants.{Match, Differs}
@@ -55,16 +56,16 @@ abbrev pub text_of : List (List ℕ) → List ℕ
 text_of [] = []
 text_of (row ∷ rows) = row ++ text_of rows
 
-text_of-joined : (byte : ℕ) (rows : List (List ℕ)) → text_of (joined byte rows) ≡ byte ∷ text_of rows
-text_of-joined byte [] = refl
-text_of-joined byte (row ∷ rows) = refl
+text_of-with_byte : (byte : ℕ) (rows : List (List ℕ)) → text_of (with_byte byte rows) ≡ byte ∷ text_of rows
+text_of-with_byte byte [] = refl
+text_of-with_byte byte (row ∷ rows) = refl
 
 text_of_at :
     (b : Bool) (byte : ℕ) (rest : List ℕ) → eqb byte 10 ≡ b → text_of (rows_of rest) ≡ rest
     → text_of (rows_of (byte ∷ rest)) ≡ byte ∷ rest
 text_of_at true byte rest e ih = simp e (ap (λ t. byte ∷ t) ih)
 text_of_at false byte rest e ih =
-    simp e (text_of-joined byte (rows_of rest) ∙ ap (λ t. byte ∷ t) ih)
+    simp e (text_of-with_byte byte (rows_of rest) ∙ ap (λ t. byte ∷ t) ih)
 
 pub text_of-rows_of : (text : List ℕ) → text_of (rows_of text) ≡ text
 text_of-rows_of [] = refl

@@ -1,9 +1,11 @@
--- A text's first row ends where its first line feed stands, and the other rows are those of what follows.
+-- A text's first row ends where its first line feed stands, and the other rows are those of what
+-- follows.
 use Rattle.std.proofs.Common.{◌≡◌, ℕ, ◌+◌, ◌<◌, min, Bool, true, false, cond, eqb, ltb}
-use Rattle.std.proofs.Common.{List, [], ◌∷◌, length, take, drop, length-drop, Some, None, refl, add-one, arith}
+use Rattle.std.proofs.Common.{List, [], ◌∷◌, length, take, drop, length-drop, Some, None, refl}
+use Rattle.std.proofs.Common.{add-one, arith}
 use Rattle.std.proofs.lemmas.Bool.Decides.{nat_tests}
 use Rattle.std.specs.List.{position, position_or_len}
-use Rattle.report.specs.Rows.{rows_of, row_size, joined}
+use Rattle.report.specs.Rows.{rows_of, row_size, with_byte}
 
 counts_at :
     (b : Bool) (byte : ℕ) (rest : List ℕ) → eqb byte 10 ≡ b
@@ -41,10 +43,10 @@ sized_none text e =
     by_test true t r h = cc
     by_test false t r h = grind (arith, nat_tests)
 
-joined_cut :
+with_byte-cut :
     (byte n : ℕ) (text : List ℕ) → rows_of text ≡ take n text ∷ rows_of (drop n text)
-    → joined byte (rows_of text) ≡ take (n + 1) (byte ∷ text) ∷ rows_of (drop (n + 1) (byte ∷ text))
-joined_cut byte n text h = rw (h, add-one) refl
+    → with_byte byte (rows_of text) ≡ take (n + 1) (byte ∷ text) ∷ rows_of (drop (n + 1) (byte ∷ text))
+with_byte-cut byte n text h = rw (h, add-one) refl
 
 cut_at :
     (b : Bool) (byte : ℕ) (rest : List ℕ) → eqb byte 10 ≡ b
@@ -54,7 +56,7 @@ cut_at :
 cut_at true byte rest e ih = simp e
 cut_at false byte [] e ih = simp e
 cut_at false byte (next ∷ rest) e ih =
-    simp e (joined_cut byte (row_size (next ∷ rest)) (next ∷ rest) (ih (omega arith)))
+    simp e (with_byte-cut byte (row_size (next ∷ rest)) (next ∷ rest) (ih (omega arith)))
 
 pub first_cut :
     (text : List ℕ) → 0 < length text → rows_of text ≡ take (row_size text) text ∷ rows_of (drop (row_size text) text)

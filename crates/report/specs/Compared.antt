@@ -1,16 +1,17 @@
--- What comparing two listings says.
-use Rattle.std.specs.Prelude.{◌≡◌, ◌≢◌, ◌↔◌, ℕ, ◌+◌, List, [], ◌∷◌, ◌++◌, length, Some, None, Option}
+-- The outcome of comparing two listings.
+use Rattle.std.specs.Prelude.{◌≡◌, ◌≢◌, ◌↔◌, ℕ, ◌+◌, List, [], ◌∷◌, ◌++◌, length, Some, None}
+use Rattle.std.specs.Prelude.{Option}
 use Rattle.std.specs.Option.{option_map}
 use Rattle.report.specs.Rows.{rows_of}
 use Rattle.report.specs.declared.compare.Comparison.{Comparison}
 use Rattle.report.specs.declared.compare.Comparison.TheVariants.{Match, Differs}
 
--- The first row of some, if there is one.
+-- The first of some rows, if there is one.
 abbrev pub first_row : List (List ℕ) → Option (List ℕ)
 first_row [] = None
 first_row (row ∷ rows) = Some row
 
--- The rows before a row are the same in both, and that row is not.
+-- The rows before this one are the same in both listings, and this row is not.
 pub record FirstDiffers (ours theirs : List (List ℕ)) (row : ℕ) (our_row their_row : Option (List ℕ)) : Type 0 where
   pub same : List (List ℕ)
   pub our_rest : List (List ℕ)
@@ -22,7 +23,8 @@ pub record FirstDiffers (ours theirs : List (List ℕ)) (row : ℕ) (our_row the
   pub their_first : their_row ≡ first_row their_rest
   pub differ : our_row ≢ their_row
 
--- What is said of two listings: that they are the same, with the number of their rows, or the first row that differs.
+-- The comparison is right: a match has the same bytes in both and the number of their rows;
+-- otherwise it names the first row that differs.
 abbrev pub Compared : List ℕ → List ℕ → Comparison → Type 0
 Compared ours theirs (Match rows) = (ours ≡ theirs) × (rows ≡ length (rows_of ours))
 Compared ours theirs (Differs row our_row their_row) =
@@ -32,6 +34,6 @@ abbrev pub IsMatch : Comparison → Type 0
 IsMatch (Match rows) = Unit {0}
 IsMatch (Differs row our_row their_row) = ⊥
 
--- Two listings are said to be the same exactly where they are, byte for byte.
+-- A comparison is a match exactly if the two listings are the same, byte for byte.
 abbrev pub MatchIsExact : Type 0
 MatchIsExact = (ours theirs : List ℕ) (said : Comparison) → Compared ours theirs said → IsMatch said ↔ (ours ≡ theirs)

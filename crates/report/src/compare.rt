@@ -1,16 +1,18 @@
 //! Whether two listings are the same, or which row of them differs first.
-ghost use Rattle.std.specs.Prelude.{◌≡◌, ◌<◌, ◌≤◌, [], ◌∷◌, ◌==◌, length, position, IfSome, MatchOption};
+ghost use Rattle.std.specs.Prelude.{◌≡◌, ◌<◌, ◌≤◌, [], ◌∷◌, ◌==◌, length, position, IfSome};
+ghost use Rattle.std.specs.Prelude.{MatchOption};
 ghost use Rattle.report.specs.Rows.{rows_of, row_size};
 ghost use Rattle.report.specs.Compared.{Compared, MatchIsExact};
 
-/// How a listing stands to another. A row goes up to its line feed, and has it; the last may lack one.
+/// The outcome of a comparison. A row ends with its line feed; the last row may lack one.
 #[derive(Clone, Copy)]
 pub enum Comparison<'a> {
-    /// They are the same, byte for byte, and have so many rows.
+    /// The listings are the same, byte for byte.
     Match {
         rows: usize,
     },
-    /// The first row that is not the same, counted from 1, in both; nothing where that listing has ended.
+    /// The first row that differs, counted from 1, in both listings; none where a listing has
+    /// ended.
     Differs {
         row: usize,
         ours: Option<&'a [u8]>,
@@ -18,7 +20,7 @@ pub enum Comparison<'a> {
     },
 }
 
-/// Compares a listing of theirs with ours.
+/// Compares their listing with ours.
 pub fn find_difference<'a>(ours: &'a [u8], theirs: &'a [u8]) -> Comparison<'a>
     ensures rows { Compared ours.now theirs.now result }
     ensures exact { MatchIsExact }
@@ -52,10 +54,12 @@ pub fn find_difference<'a>(ours: &'a [u8], theirs: &'a [u8]) -> Comparison<'a>
     }
 }
 
-// The first row of a text and what follows it, if there is one.
+// The first row of a text, if it has one, and the rest of the text.
 fn split_row(text: &[u8]) -> Option<(&[u8], &[u8])>
-    ensures rows { MatchOption result (text.now ≡ []) (λ split. rows_of text.now ≡ split.0.now ∷ rows_of split.1.now) }
-    ensures shorter { MatchOption result (text.now ≡ []) (λ split. length split.1.now < length text.now) }
+    ensures rows { MatchOption result (text.now ≡ [])
+        (λ split. rows_of text.now ≡ split.0.now ∷ rows_of split.1.now) }
+    ensures shorter { MatchOption result (text.now ≡ [])
+        (λ split. length split.1.now < length text.now) }
 {
     if text.is_empty() {
         return None;

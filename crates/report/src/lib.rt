@@ -1,4 +1,4 @@
-//! A listing against that of a calls file, row by row.
+//! Compares a listing with that of a calls file, row by row.
 #![tactic(auto)]
 
 mod compare;
@@ -8,4 +8,4 @@ mod shown;
 mod tests;
 
 pub use compare::{Comparison, find_difference};
-pub use report::{Report, make_report};
+pub use report::{Report, compare_listing};

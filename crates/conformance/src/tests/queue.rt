@@ -1,14 +1,10 @@
-//! Requests that wait: how many may, in which order they are tried, and what stays of one that is gone.
-use crate::asked::{line_has, place_has, request_is, warp_has};
-use crate::rows::{Row, leaves, turns};
-use book::ExactBook;
-use machine::Machine;
-use memory::WordMemory;
-use protocol::{Cause, Outcome};
-use rules::Phase;
+//! The queue: its limits, the order of the retries, and a settled request until it is fetched.
+use crate::tests::queries::{check_line, check_place, check_request, check_warp};
+use crate::tests::rows::{Row, check_run, make_calls};
+use harriersofa::{Cause, ExactBook, Machine, Outcome, Phase, WordMemory};
 use std::test::Fail;
 
-// Warp 0 holds five lines. Four of them are waited for, so no request may wait for the fifth.
+// Warp 0 holds five lines. Requests wait for four of them, so none may wait for the fifth.
 const FIFTH_LINE: [Row; 24] = [
     ('B', 0, 0, 0, "ok"),
     ('B', 1, 0, 0, "ok"),
@@ -39,7 +35,7 @@ const FIFTH_LINE: [Row; 24] = [
 #[test]
 fn a_fifth_line_is_too_many(rt: HostRuntime) -> Result<(), Fail> {
     let stamps = [0, 1, 1, 1, 1, 1, 1];
-    leaves(
+    check_run(
         &rt,
         rt.alloc(),
         &mut [0; 5],
@@ -49,7 +45,7 @@ fn a_fifth_line_is_too_many(rt: HostRuntime) -> Result<(), Fail> {
     )
 }
 
-// Warps 1 to 4 wait, at 9, 5, 5 and 7. The load of warp 2 is tried first, and then the store of warp 3 takes the line.
+// Warps 1 to 4 wait at stamps 9, 5, 5 and 7. The load of warp 2 is tried first; then the store of warp 3 takes the line.
 const IN_TURN: [Row; 14] = [
     ('B', 0, 0, 0, "ok"),
     ('B', 1, 0, 0, "ok"),
@@ -67,7 +63,7 @@ const IN_TURN: [Row; 14] = [
     ('F', 4, 0, 0, "wait"),
 ];
 
-// The load of warp 4 at 7 comes before the store of warp 1 at 9, which came first.
+// The load of warp 4 at stamp 7 is tried before the store of warp 1 at stamp 9, which arrived earlier.
 const NEXT_TURN: [Row; 5] = [
     ('C', 3, 0, 0, "ok"),
     ('F', 4, 0, 0, "val 13"),
@@ -81,19 +77,19 @@ fn requests_have_their_turns(rt: HostRuntime) -> Result<(), Fail> {
     let mut words = [0];
     let memory = WordMemory { words: &mut words };
     let (mut machine, _) = Machine::make(memory, ExactBook::new(), &[0, 9, 5, 5, 7]);
-    turns(&rt, rt.alloc(), &mut machine, &IN_TURN[..10])?;
-    place_has(&rt, &machine, 1, Some((2, 0, None)));
-    turns(&rt, rt.alloc(), &mut machine, &IN_TURN[10..])?;
-    place_has(&rt, &machine, 0, Some((1, 0, Some(11))));
-    place_has(&rt, &machine, 1, Some((4, 0, None)));
-    place_has(&rt, &machine, 2, None);
-    turns(&rt, rt.alloc(), &mut machine, &NEXT_TURN)?;
-    place_has(&rt, &machine, 0, None);
+    make_calls(&rt, rt.alloc(), &mut machine, &IN_TURN[..10])?;
+    check_place(&rt, &machine, 1, Some((2, 0, None)));
+    make_calls(&rt, rt.alloc(), &mut machine, &IN_TURN[10..])?;
+    check_place(&rt, &machine, 0, Some((1, 0, Some(11))));
+    check_place(&rt, &machine, 1, Some((4, 0, None)));
+    check_place(&rt, &machine, 2, None);
+    make_calls(&rt, rt.alloc(), &mut machine, &NEXT_TURN)?;
+    check_place(&rt, &machine, 0, None);
     assert!(rt; machine.value(0) == Ok(11));
     Ok(())
 }
 
-// The store of warp 2 takes line 0 before the load of warp 1 has its turn. Warp 3 waits for what warp 1 stored.
+// The store of warp 2 takes line 0 before the load of warp 1 is tried. Warp 3 waits for the line that warp 1 holds.
 const OVERTAKEN: [Row; 10] = [
     ('B', 0, 0, 0, "ok"),
     ('B', 1, 0, 0, "ok"),
@@ -119,15 +115,15 @@ fn what_is_gone_stays_until_it_is_fetched(rt: HostRuntime) -> Result<(), Fail> {
     let mut words = [7, 8];
     let memory = WordMemory { words: &mut words };
     let (mut machine, _) = Machine::make(memory, ExactBook::new(), &[0, 3, 3, 4]);
-    turns(&rt, rt.alloc(), &mut machine, &OVERTAKEN)?;
+    make_calls(&rt, rt.alloc(), &mut machine, &OVERTAKEN)?;
     let (cause, next) = (Cause::WrittenLater, 5);
     assert!(rt; machine.outcome(1) == Some(Outcome::Gone { cause, next }));
-    request_is(&rt, &machine, 1, None);
-    warp_has(&rt, &machine, 1, 3, 1);
-    line_has(&rt, &machine, 1, 1, Some(1));
-    turns(&rt, rt.alloc(), &mut machine, &NOT_FETCHED)?;
+    check_request(&rt, &machine, 1, None);
+    check_warp(&rt, &machine, 1, 3, 1);
+    check_line(&rt, &machine, 1, 1, Some(1));
+    make_calls(&rt, rt.alloc(), &mut machine, &NOT_FETCHED)?;
     assert!(rt; matches!(machine.phase(1), Phase::Idle));
-    warp_has(&rt, &machine, 1, 5, 0);
-    line_has(&rt, &machine, 1, 0, None);
-    turns(&rt, rt.alloc(), &mut machine, &[('F', 3, 0, 0, "val 8")])
+    check_warp(&rt, &machine, 1, 5, 0);
+    check_line(&rt, &machine, 1, 0, None);
+    make_calls(&rt, rt.alloc(), &mut machine, &[('F', 3, 0, 0, "val 8")])
 }

@@ -1,10 +1,9 @@
-//! A memory of two banks: words for the even lines, four bytes for each odd one.
-use crate::rows::{Row, plays};
-use book::ExactBook;
-use memory::{ByteMemory, SplitMemory, WordMemory};
+//! Memories under a machine: one of two banks, and one with more lines than a book.
+use crate::tests::rows::{Row, check_rows};
+use harriersofa::{ByteMemory, ExactBook, SplitMemory, WordMemory};
 use std::test::Fail;
 
-// Lines 0, 2 and 4 are words, line 1 is four bytes, and two bytes are no line.
+// Lines 0, 2 and 4 are words, and line 1 is four bytes. The last two bytes belong to no line.
 const ROWS: [Row; 16] = [
     ('B', 0, 0, 0, "ok"),
     ('L', 0, 0, 0, "val 100"),
@@ -31,13 +30,13 @@ fn two_banks(rt: HostRuntime) -> Result<(), Fail> {
         even: WordMemory { words: &mut words },
         odd: ByteMemory { bytes: &mut bytes },
     };
-    plays(&rt, rt.alloc(), memory, ExactBook::new(), &[0], &ROWS)?;
+    check_rows(&rt, rt.alloc(), memory, ExactBook::new(), &[0], &ROWS)?;
     assert!(rt; words == [100, 9, 300]);
     assert!(rt; bytes == [2, 1, 0, 0, 5, 6]);
     Ok(())
 }
 
-// The memory has line 4,096, and no book can number it.
+// The memory has line 4,096, but a book has no such line.
 const PAST_THE_BOOK: [Row; 4] = [
     ('B', 0, 0, 0, "ok"),
     ('L', 0, 4095, 0, "val 0"),
@@ -49,7 +48,7 @@ const PAST_THE_BOOK: [Row; 4] = [
 fn a_line_past_the_book(rt: HostRuntime) -> Result<(), Fail> {
     let mut words = [0; 4097];
     let memory = WordMemory { words: &mut words };
-    plays(
+    check_rows(
         &rt,
         rt.alloc(),
         memory,

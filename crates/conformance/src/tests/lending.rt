@@ -1,19 +1,17 @@
-//! What a run leaves to whoever lends it: the answers in their places, and what is lent for memory.
+//! What a run leaves in the slices that a caller lends it: the answers in their places, and the memory's new lines.
 ghost use Rattle.std.specs.Prelude.{◌≡◌, ◌∷◌};
-ghost use Rattle.memory.specs.Lines.{word_lines, byte_lines, odd_bytes};
-ghost use Rattle.book.specs.Exact.{exact, exact_new};
-ghost use Rattle.machine.specs.Running.{run_of, calls_made};
+ghost use Rattle.harriersofa.specs.Lines.{word_lines, byte_lines, odd_bytes};
+ghost use Rattle.harriersofa.specs.Exact.{exact, exact_new};
+ghost use Rattle.harriersofa.specs.Running.{run_of, calls_made};
 
-use crate::rows::{Row, answers, call_of};
-use book::ExactBook;
-use machine::run;
-use memory::{ByteMemory, Memory, WordMemory};
-use protocol::{Answer, Call, Fault, Refusal};
+use crate::tests::rows::{Row, call_of, check_reply};
+use harriersofa::{Answer, ByteMemory, Call, ExactBook, Fault, Memory, Refusal, WordMemory, run};
 use std::alloc::Global;
 use std::process::Abort;
 use std::test::Fail;
 
-/// Any memory, lent for as long as it is needed.
+/// A memory that is itself borrowed. The checker follows a lent slice through a run only over a memory that is passed
+/// by reference.
 #[derive(Drop)]
 struct LentMemory<'a, M> {
     memory: &'a mut M,
@@ -35,9 +33,8 @@ impl<'a, M: Memory> Memory for LentMemory<'a, M> {
     }
 }
 
-// A memory of a slice that goes into a run by value is lost to the checker: it follows one that is lent besides.
-/// What is known to whoever lends a memory to a run over the exact book, once the machine is gone: its lines are what
-/// the run left of them, it borrows what it did before, and what is in no line is as it was.
+/// Runs calls over a lent memory and the exact book. Once the machine is gone, the lender knows: the lines are what the
+/// run left, the memory borrows the same slice as before, and whatever is in no line is as it was.
 fn runs_over<M: Memory>(
     memory: &mut M,
     stamps: &[u32],
@@ -60,7 +57,7 @@ fn runs_over<M: Memory>(
     .shape
 }
 
-/// So whoever lends words knows what they hold.
+/// The same over words: the lender knows what they hold.
 fn runs_over_words(
     words: &mut [u32],
     stamps: &[u32],
@@ -75,7 +72,7 @@ fn runs_over_words(
     runs_over(&mut memory, stamps, calls, replies)
 }
 
-/// And whoever lends bytes, whose odd ones are as they were.
+/// The same over bytes. Bytes beyond the last whole line are as they were.
 fn runs_over_bytes(
     bytes: &mut [u8],
     stamps: &[u32],
@@ -98,10 +95,10 @@ const STORED: [Row; 4] = [
     ('L', 0, 1, 0, "no 2 machine 0"),
 ];
 
-/// What stands in a place that no answer comes to.
-const KEPT: Result<Answer, Fault> = Ok(Answer::Val { value: 77 });
+/// Fills each place before the run.
+const UNTOUCHED: Result<Answer, Fault> = Ok(Answer::Val { value: 77 });
 
-/// The calls of the rows above.
+/// The calls of `STORED`.
 fn stored_calls() -> Result<[Call; 4], Fail> {
     let [begin, store, commit, load] = &STORED;
     Ok([
@@ -112,8 +109,8 @@ fn stored_calls() -> Result<[Call; 4], Fail> {
     ])
 }
 
-/// So many rows are answered as they say, and the places behind them are as they were.
-fn replies_are(
+/// Checks the replies to the first `made` rows, and that the places behind them are untouched.
+fn check_replies(
     rt: &impl Abort,
     heap: Global,
     replies: &[Result<Answer, Fault>],
@@ -121,8 +118,8 @@ fn replies_are(
 ) -> Result<(), Fail> {
     for (place, reply) in replies.iter().enumerate() {
         match STORED.get(place) {
-            Some(row) if place < made => answers(rt, heap, row, *reply)?,
-            Some(_) | None => assert_eq!(rt; *reply, KEPT),
+            Some(row) if place < made => check_reply(rt, heap, row, *reply)?,
+            Some(_) | None => assert_eq!(rt; *reply, UNTOUCHED),
         }
     }
     Ok(())
@@ -130,40 +127,40 @@ fn replies_are(
 
 #[test]
 fn a_place_for_each_call_and_more(rt: HostRuntime) -> Result<(), Fail> {
-    let (mut words, mut replies) = ([1, 2, 3], [KEPT; 6]);
+    let (mut words, mut replies) = ([1, 2, 3], [UNTOUCHED; 6]);
     let calls = stored_calls()?;
     let shape = runs_over_words(&mut words, &[0], &calls, &mut replies);
     assert_eq!(rt; shape, Ok(()));
-    replies_are(&rt, rt.alloc(), &replies, 4)?;
+    check_replies(&rt, rt.alloc(), &replies, 4)?;
     assert_eq!(rt; words, [1, 258, 3]);
     Ok(())
 }
 
 #[test]
 fn no_more_calls_than_places(rt: HostRuntime) -> Result<(), Fail> {
-    let (mut words, mut replies) = ([1, 2, 3], [KEPT; 2]);
+    let (mut words, mut replies) = ([1, 2, 3], [UNTOUCHED; 2]);
     let calls = stored_calls()?;
     let shape = runs_over_words(&mut words, &[0], &calls, &mut replies);
     assert_eq!(rt; shape, Ok(()));
-    replies_are(&rt, rt.alloc(), &replies, 2)?;
+    check_replies(&rt, rt.alloc(), &replies, 2)?;
     assert_eq!(rt; words, [1, 2, 3]);
     Ok(())
 }
 
 #[test]
 fn odd_bytes_stay(rt: HostRuntime) -> Result<(), Fail> {
-    let (mut bytes, mut replies) = ([9; 11], [KEPT; 4]);
+    let (mut bytes, mut replies) = ([9; 11], [UNTOUCHED; 4]);
     let calls = stored_calls()?;
     let shape = runs_over_bytes(&mut bytes, &[0], &calls, &mut replies);
     assert_eq!(rt; shape, Ok(()));
-    replies_are(&rt, rt.alloc(), &replies, 4)?;
+    check_replies(&rt, rt.alloc(), &replies, 4)?;
     assert_eq!(rt; bytes, [9, 9, 9, 9, 2, 1, 0, 0, 9, 9, 9]);
     Ok(())
 }
 
 #[test]
 fn a_refused_shape_answers_each_call(rt: HostRuntime) -> Result<(), Fail> {
-    let (mut words, mut replies) = ([1, 2, 3], [KEPT; 4]);
+    let (mut words, mut replies) = ([1, 2, 3], [UNTOUCHED; 4]);
     let calls = stored_calls()?;
     let shape = runs_over_words(&mut words, &[], &calls, &mut replies);
     assert_eq!(rt; shape, Err(Fault::in_call(Refusal::BadSize, 0)));

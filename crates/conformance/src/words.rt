@@ -1,10 +1,7 @@
-//! Prints every word in which calls and their answers are told: the causes, the refusals, and the explanations of a few
-//! calls files in which all else stands.
-#![tactic(auto)]
-
+//! The words of the program: every cause, every refusal, and explanations in which every kind of note occurs.
 use explain::answer_words::{cause_words, refusal_words};
 use explain::explain;
-use protocol::{Cause, Refusal};
+use harriersofa::{Cause, Refusal};
 use std::fs;
 
 /// The causes, in the order of their numbers.
@@ -34,7 +31,8 @@ const REFUSALS: [Refusal; 15] = [
     Refusal::TooManyRows,
 ];
 
-fn main(rt: HostRuntime) -> anyhow::Result<()> {
+/// Prints the words for each cause and each refusal, and the explanations of three calls files.
+pub fn print_words(rt: &HostRuntime) -> anyhow::Result<()> {
     for cause in CAUSES {
         println!(rt; "gone {}: {}", cause.number(), cause_words(cause))?;
     }
@@ -42,7 +40,7 @@ fn main(rt: HostRuntime) -> anyhow::Result<()> {
         println!(rt; "no {}: {}", refusal.number(), refusal_words(refusal))?;
     }
     for name in ["exact.gtm", "condensed.gtm", "damaged.gtm"] {
-        print_explanation(&rt, name)?;
+        print_explanation(rt, name)?;
     }
     Ok(())
 }

@@ -1,14 +1,13 @@
-//! Rows of calls with their answers, and how they are made.
-use book::{Book, ExactBook};
-use machine::{Machine, run_to_vec};
-use memory::{Memory, WordMemory};
-use protocol::{Answer, Call, Fault, Layer, Op};
+//! Rows of calls with the answers that they must get, and functions that make the calls and check the answers.
+use harriersofa::{
+    Answer, Book, Call, ExactBook, Fault, Layer, Machine, Memory, Op, WordMemory, run_to_vec,
+};
 use std::alloc::{AllocError, Global};
 use std::process::Abort;
 use std::test::Fail;
 
-/// A call's letter, its warp, line and value (0 where it has no use for them), and its answer: as listings print it,
-/// and for a refusal its layer and its offending number too.
+/// A call's letter, its warp, line and value (0 if the call takes none), and its answer as listings print it. A refusal
+/// is followed by its layer and its offending number.
 pub type Row<'a> = (char, u32, u32, u32, &'a str);
 
 fn layer_word(layer: Layer) -> &'static str {
@@ -19,17 +18,17 @@ fn layer_word(layer: Layer) -> &'static str {
     }
 }
 
-/// A refusal in words, whole.
-pub fn tell_fault(heap: Global, fault: Fault) -> Result<String, AllocError> {
+/// A refusal as a row writes it.
+pub fn fault_text(heap: Global, fault: Fault) -> Result<String, AllocError> {
     let layer = layer_word(fault.layer);
     format!(in heap; "{fault} {layer} {}", fault.number)
 }
 
-/// An answer in words, or a refusal.
-fn tell(heap: Global, reply: Result<Answer, Fault>) -> Result<String, AllocError> {
+/// An answer or a refusal as a row writes it.
+fn reply_text(heap: Global, reply: Result<Answer, Fault>) -> Result<String, AllocError> {
     match reply {
         Ok(answer) => format!(in heap; "{answer}"),
-        Err(fault) => tell_fault(heap, fault),
+        Err(fault) => fault_text(heap, fault),
     }
 }
 
@@ -39,16 +38,16 @@ pub fn call_of(row: &Row) -> Result<Call, Fail> {
     Ok(Call { warp, op })
 }
 
-/// The answer or the refusal is the row's.
-pub fn answers(
+/// Checks that an answer or a refusal is the row's.
+pub fn check_reply(
     rt: &impl Abort,
     heap: Global,
     row: &Row,
     reply: Result<Answer, Fault>,
 ) -> Result<(), Fail> {
-    let told = tell(heap, reply)?;
+    let text = reply_text(heap, reply)?;
     assert_eq!(rt;
-        told.as_str(),
+        text.as_str(),
         row.4,
         "{} {} {} {}",
         row.0,
@@ -59,8 +58,8 @@ pub fn answers(
     Ok(())
 }
 
-/// Makes a call by its own method.
-fn turn<M: Memory, B: Book>(machine: &mut Machine<M, B>, call: Call) -> Result<Answer, Fault> {
+/// Makes a call by the method for its kind.
+fn make_call<M: Memory, B: Book>(machine: &mut Machine<M, B>, call: Call) -> Result<Answer, Fault> {
     let Call { warp, op } = call;
     match op {
         Op::Begin => machine.begin(warp),
@@ -72,21 +71,21 @@ fn turn<M: Memory, B: Book>(machine: &mut Machine<M, B>, call: Call) -> Result<A
     }
 }
 
-/// Makes each row's call and looks at its answer.
-pub fn turns<M: Memory, B: Book>(
+/// Makes each row's call, and checks its answer.
+pub fn make_calls<M: Memory, B: Book>(
     rt: &impl Abort,
     heap: Global,
     machine: &mut Machine<M, B>,
     rows: &[Row],
 ) -> Result<(), Fail> {
     for row in rows {
-        answers(rt, heap, row, turn(machine, call_of(row)?))?;
+        check_reply(rt, heap, row, make_call(machine, call_of(row)?))?;
     }
     Ok(())
 }
 
-/// Makes a machine and turns the rows on it.
-pub fn plays<M: Memory + Drop, B: Book + Drop>(
+/// Makes a machine and the rows' calls of it, and checks their answers.
+pub fn check_rows<M: Memory + Drop, B: Book + Drop>(
     rt: &impl Abort,
     heap: Global,
     memory: M,
@@ -96,11 +95,11 @@ pub fn plays<M: Memory + Drop, B: Book + Drop>(
 ) -> Result<(), Fail> {
     let (mut machine, shape) = Machine::make(memory, book, stamps);
     assert!(rt; shape.is_ok());
-    turns(rt, heap, &mut machine, rows)
+    make_calls(rt, heap, &mut machine, rows)
 }
 
-/// The same over words and the exact book, and looks at what the words hold then.
-pub fn leaves(
+/// The same over words and the exact book. Checks too what the words hold at the end.
+pub fn check_run(
     rt: &impl Abort,
     heap: Global,
     words: &mut [u32],
@@ -108,7 +107,7 @@ pub fn leaves(
     rows: &[Row],
     left: &[u32],
 ) -> Result<(), Fail> {
-    plays(
+    check_rows(
         rt,
         heap,
         WordMemory { words },
@@ -120,7 +119,7 @@ pub fn leaves(
     Ok(())
 }
 
-/// The calls of some rows.
+/// The calls of rows.
 pub fn calls_of(heap: Global, rows: &[Row]) -> Result<Vec<Call>, Fail> {
     let mut calls = Vec::new(heap);
     for row in rows {
@@ -129,8 +128,8 @@ pub fn calls_of(heap: Global, rows: &[Row]) -> Result<Vec<Call>, Fail> {
     Ok(calls)
 }
 
-/// The same by one run of all the calls.
-pub fn runs(
+/// Makes all the calls by `run_to_vec` over words and the exact book, and checks their answers.
+pub fn check_run_at_once(
     rt: &impl Abort,
     heap: Global,
     words: &mut [u32],
@@ -148,7 +147,7 @@ pub fn runs(
     assert!(rt; ran.shape.is_ok());
     assert!(rt; replies.len() == rows.len());
     for (row, reply) in rows.iter().zip(replies.as_slice()) {
-        answers(rt, heap, row, *reply)?;
+        check_reply(rt, heap, row, *reply)?;
     }
     Ok(())
 }

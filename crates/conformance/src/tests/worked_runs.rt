@@ -1,8 +1,8 @@
-//! The worked runs of docs/MACHINE.md.
-use crate::rows::{Row, leaves, runs};
+//! The worked runs of docs/MACHINE.md, by their numbers there.
+use crate::tests::rows::{Row, check_run, check_run_at_once};
 use std::test::Fail;
 
-// 1
+// Run 1
 const LATER_WRITE: [Row; 8] = [
     ('B', 0, 0, 0, "ok"),
     ('B', 1, 0, 0, "ok"),
@@ -14,7 +14,7 @@ const LATER_WRITE: [Row; 8] = [
     ('L', 0, 0, 0, "no 2 machine 0"),
 ];
 
-// 2, and 3 from the eighth row on
+// Run 2; the rows from the eighth on are run 3
 const TRANSFER: [Row; 13] = [
     ('B', 0, 0, 0, "ok"),
     ('B', 1, 0, 0, "ok"),
@@ -31,7 +31,7 @@ const TRANSFER: [Row; 13] = [
     ('F', 1, 0, 0, "val 60"),
 ];
 
-// 4
+// Run 4
 const OWN_COMMIT: [Row; 5] = [
     ('B', 0, 0, 0, "ok"),
     ('S', 0, 0, 8, "ok"),
@@ -40,7 +40,7 @@ const OWN_COMMIT: [Row; 5] = [
     ('L', 0, 0, 0, "gone 1 7"),
 ];
 
-// 5
+// Run 5
 const ONE_STAMP: [Row; 6] = [
     ('B', 0, 0, 0, "ok"),
     ('B', 1, 0, 0, "ok"),
@@ -50,7 +50,7 @@ const ONE_STAMP: [Row; 6] = [
     ('S', 1, 0, 4, "ok"),
 ];
 
-// 6
+// Run 6
 const FIFTH_REQUEST: [Row; 12] = [
     ('B', 0, 0, 0, "ok"),
     ('B', 1, 0, 0, "ok"),
@@ -66,7 +66,7 @@ const FIFTH_REQUEST: [Row; 12] = [
     ('L', 5, 0, 0, "gone 3 1"),
 ];
 
-// 7
+// Run 7
 const FIRST_TO_ARRIVE: [Row; 9] = [
     ('B', 0, 0, 0, "ok"),
     ('B', 1, 0, 0, "ok"),
@@ -79,7 +79,7 @@ const FIRST_TO_ARRIVE: [Row; 9] = [
     ('F', 1, 0, 0, "gone 1 5"),
 ];
 
-// 8
+// Run 8
 const END_OF_CLOCK: [Row; 5] = [
     ('B', 0, 0, 0, "ok"),
     ('B', 1, 0, 0, "ok"),
@@ -93,8 +93,8 @@ const LAST: u32 = 1_000_000_000;
 #[test]
 fn the_worked_runs(rt: HostRuntime) -> Result<(), Fail> {
     let heap = rt.alloc();
-    leaves(&rt, heap, &mut [7], &[0, 0], &LATER_WRITE, &[9])?;
-    leaves(
+    check_run(&rt, heap, &mut [7], &[0, 0], &LATER_WRITE, &[9])?;
+    check_run(
         &rt,
         heap,
         &mut [100, 50],
@@ -102,10 +102,10 @@ fn the_worked_runs(rt: HostRuntime) -> Result<(), Fail> {
         &TRANSFER[..7],
         &[100, 50],
     )?;
-    leaves(&rt, heap, &mut [100, 50], &[20, 10], &TRANSFER, &[90, 60])?;
-    leaves(&rt, heap, &mut [7], &[5], &OWN_COMMIT, &[8])?;
-    leaves(&rt, heap, &mut [1, 2], &[0, 0], &ONE_STAMP, &[1, 2])?;
-    leaves(
+    check_run(&rt, heap, &mut [100, 50], &[20, 10], &TRANSFER, &[90, 60])?;
+    check_run(&rt, heap, &mut [7], &[5], &OWN_COMMIT, &[8])?;
+    check_run(&rt, heap, &mut [1, 2], &[0, 0], &ONE_STAMP, &[1, 2])?;
+    check_run(
         &rt,
         heap,
         &mut [7],
@@ -113,14 +113,14 @@ fn the_worked_runs(rt: HostRuntime) -> Result<(), Fail> {
         &FIFTH_REQUEST,
         &[7],
     )?;
-    leaves(&rt, heap, &mut [7], &[0, 3, 3], &FIRST_TO_ARRIVE, &[8])?;
-    leaves(&rt, heap, &mut [7], &[LAST, LAST], &END_OF_CLOCK, &[7])
+    check_run(&rt, heap, &mut [7], &[0, 3, 3], &FIRST_TO_ARRIVE, &[8])?;
+    check_run(&rt, heap, &mut [7], &[LAST, LAST], &END_OF_CLOCK, &[7])
 }
 
 #[test]
 fn a_worked_run_at_once(rt: HostRuntime) -> Result<(), Fail> {
     let mut words = [7];
-    runs(&rt, rt.alloc(), &mut words, &[0, 0], &LATER_WRITE)?;
+    check_run_at_once(&rt, rt.alloc(), &mut words, &[0, 0], &LATER_WRITE)?;
     assert!(rt; words == [9]);
     Ok(())
 }

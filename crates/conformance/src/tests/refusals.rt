@@ -1,8 +1,8 @@
-//! Refusals of calls, each with its layer and its offending number, and which comes first.
-use crate::rows::{Row, leaves};
+//! Refusals of calls: each with its layer and its offending number, and which one comes first.
+use crate::tests::rows::{Row, check_run};
 use std::test::Fail;
 
-// Warp 2 is lacking and would be idle, line 9 is lacking, and warp 1's stamp is the end of the clock.
+// There is no warp 2 and no line 9, and warp 1's stamp is the end of the clock.
 const IN_ORDER: [Row; 36] = [
     ('B', 2, 0, 0, "no 1 machine 2"),
     ('L', 2, 9, 0, "no 1 machine 2"),
@@ -44,7 +44,7 @@ const IN_ORDER: [Row; 36] = [
 
 #[test]
 fn refusals_in_order(rt: HostRuntime) -> Result<(), Fail> {
-    leaves(
+    check_run(
         &rt,
         rt.alloc(),
         &mut [4],

@@ -1,8 +1,6 @@
-//! Shapes that are refused. No call finds a warp then.
-use crate::rows::{Row, tell_fault, turns};
-use book::{Book, ExactBook};
-use machine::Machine;
-use memory::WordMemory;
+//! Shapes of a machine: the refused ones, after which the machine has no warps, and the largest.
+use crate::tests::rows::{Row, fault_text, make_calls};
+use harriersofa::{Book, ExactBook, Machine, WordMemory};
 use std::alloc::Global;
 use std::process::Abort;
 use std::test::Fail;
@@ -16,14 +14,14 @@ const NO_WARP: [Row; 6] = [
     ('F', 32, 0, 0, "no 1 machine 32"),
 ];
 
-/// A book that has given out a stamp: its latest is 5.
-fn used() -> ExactBook {
+/// A book that is not new: its latest stamp is 5.
+fn used_book() -> ExactBook {
     let mut book = ExactBook::new();
     let _ = book.reserve(3, (4, 0));
     book
 }
 
-fn refuses(
+fn check_refusal(
     rt: &impl Abort,
     heap: Global,
     book: ExactBook,
@@ -34,10 +32,10 @@ fn refuses(
     let memory = WordMemory { words: &mut words };
     let (mut machine, shape) = Machine::make(memory, book, stamps);
     let fault = shape.err().ok_or("the shape is taken")?;
-    let told = tell_fault(heap, fault)?;
-    assert_eq!(rt; told.as_str(), refusal);
+    let text = fault_text(heap, fault)?;
+    assert_eq!(rt; text.as_str(), refusal);
     assert!(rt; machine.warps() == 0);
-    turns(rt, heap, &mut machine, &NO_WARP)
+    make_calls(rt, heap, &mut machine, &NO_WARP)
 }
 
 #[test]
@@ -45,10 +43,10 @@ fn refused_shapes(rt: HostRuntime) -> Result<(), Fail> {
     let heap = rt.alloc();
     let too_many = [4_000_000_000; 33];
     let late = [0, 1_000_000_000, 1_000_000_001, 4_000_000_000];
-    refuses(&rt, heap, ExactBook::new(), &[], "no 9 machine 0")?;
-    refuses(&rt, heap, used(), &too_many, "no 9 machine 33")?;
-    refuses(&rt, heap, used(), &late, "no 10 machine 1000000001")?;
-    refuses(&rt, heap, used(), &[0, 0], "no 10 machine 5")
+    check_refusal(&rt, heap, ExactBook::new(), &[], "no 9 machine 0")?;
+    check_refusal(&rt, heap, used_book(), &too_many, "no 9 machine 33")?;
+    check_refusal(&rt, heap, used_book(), &late, "no 10 machine 1000000001")?;
+    check_refusal(&rt, heap, used_book(), &[0, 0], "no 10 machine 5")
 }
 
 #[test]
@@ -59,5 +57,5 @@ fn the_largest_shape(rt: HostRuntime) -> Result<(), Fail> {
     assert!(rt; shape.is_ok());
     assert!(rt; machine.warps() == 32);
     let rows = [('B', 31, 0, 0, "ok"), ('B', 32, 0, 0, "no 1 machine 32")];
-    turns(&rt, rt.alloc(), &mut machine, &rows)
+    make_calls(&rt, rt.alloc(), &mut machine, &rows)
 }

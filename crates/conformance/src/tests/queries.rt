@@ -1,10 +1,9 @@
-//! What a machine can be asked, before a commit and after it.
-use crate::rows::{Row, turns};
-use book::{Book, ExactBook, Told};
-use machine::Machine;
-use memory::{Memory, WordMemory};
-use protocol::{Fault, Layer, Outcome, Refusal};
-use rules::{Access, Phase, Request};
+//! Every query of a machine, before a commit and after it; and checks that other tests share.
+use crate::tests::rows::{Row, make_calls};
+use harriersofa::{
+    Access, Book, ExactBook, Fault, Layer, LineState, Machine, Memory, Outcome, Phase, Refusal,
+    Request, WordMemory,
+};
 use std::process::Abort;
 use std::test::Fail;
 
@@ -19,8 +18,8 @@ fn waiting(request: Option<Request>) -> Option<Waiting> {
     }
 }
 
-/// A warp has a stamp, and so many stores in its log.
-pub fn warp_has<M: Memory, B: Book>(
+/// Checks a warp's stamp and the number of stores in its log.
+pub fn check_warp<M: Memory, B: Book>(
     rt: &impl Abort,
     machine: &Machine<M, B>,
     warp: u32,
@@ -31,8 +30,8 @@ pub fn warp_has<M: Memory, B: Book>(
     assert!(rt; machine.log(warp).len() == stores);
 }
 
-/// A line is held by so many stores, for a warp.
-pub fn line_has<M: Memory, B: Book>(
+/// Checks the number of stores that hold a line, and its owner.
+pub fn check_line<M: Memory, B: Book>(
     rt: &impl Abort,
     machine: &Machine<M, B>,
     line: u32,
@@ -43,8 +42,8 @@ pub fn line_has<M: Memory, B: Book>(
     assert!(rt; machine.line(line).owner == owner);
 }
 
-/// A place of the queue has a request, or none.
-pub fn place_has<M: Memory, B: Book>(
+/// Checks the request at a place of the queue.
+pub fn check_place<M: Memory, B: Book>(
     rt: &impl Abort,
     machine: &Machine<M, B>,
     n: usize,
@@ -53,8 +52,8 @@ pub fn place_has<M: Memory, B: Book>(
     assert!(rt; waiting(machine.place(n)) == request);
 }
 
-/// A warp has a request that waits, or none.
-pub fn request_is<M: Memory, B: Book>(
+/// Checks a warp's waiting request.
+pub fn check_request<M: Memory, B: Book>(
     rt: &impl Abort,
     machine: &Machine<M, B>,
     warp: u32,
@@ -75,32 +74,32 @@ const ROWS: [Row; 6] = [
 
 const LOAD: Waiting = (2, 1, None);
 
-fn told(written: u32, read: (u32, u32), owner: Option<u32>) -> Told {
-    Told {
-        written,
-        read,
+fn line_state(write_stamp: u32, read_mark: (u32, u32), owner: Option<u32>) -> LineState {
+    LineState {
+        write_stamp,
+        read_mark,
         owner,
-        slot: true,
+        has_slot: true,
     }
 }
 
-fn asks_of_warps<M: Memory, B: Book>(rt: &impl Abort, machine: &Machine<M, B>) {
+fn check_warps<M: Memory, B: Book>(rt: &impl Abort, machine: &Machine<M, B>) {
     assert!(rt; machine.warps() == 3);
     assert!(rt; matches!(machine.phase(0), Phase::Open));
     assert!(rt; matches!(machine.phase(1), Phase::Idle));
     assert!(rt; matches!(machine.phase(2), Phase::Waiting));
-    warp_has(rt, machine, 0, 20, 2);
-    warp_has(rt, machine, 1, 10, 0);
-    warp_has(rt, machine, 2, 30, 0);
+    check_warp(rt, machine, 0, 20, 2);
+    check_warp(rt, machine, 1, 10, 0);
+    check_warp(rt, machine, 2, 30, 0);
     assert!(rt; machine.log(0).latest(1) == Some(61));
-    request_is(rt, machine, 0, None);
-    request_is(rt, machine, 2, Some(LOAD));
-    place_has(rt, machine, 0, Some(LOAD));
-    place_has(rt, machine, 1, None);
+    check_request(rt, machine, 0, None);
+    check_request(rt, machine, 2, Some(LOAD));
+    check_place(rt, machine, 0, Some(LOAD));
+    check_place(rt, machine, 1, None);
     assert!(rt; machine.outcome(2).is_none());
 }
 
-fn asks_of_lines<M: Memory, B: Book>(rt: &impl Abort, machine: &Machine<M, B>) {
+fn check_lines<M: Memory, B: Book>(rt: &impl Abort, machine: &Machine<M, B>) {
     let lacking = Fault {
         refusal: Refusal::NoSuchLine,
         layer: Layer::Memory,
@@ -108,20 +107,20 @@ fn asks_of_lines<M: Memory, B: Book>(rt: &impl Abort, machine: &Machine<M, B>) {
     };
     assert!(rt; machine.value(1) == Ok(50));
     assert!(rt; machine.value(2) == Err(lacking));
-    line_has(rt, machine, 0, 0, None);
-    line_has(rt, machine, 1, 2, Some(0));
-    assert!(rt; machine.line(0) == told(0, (20, 0), None));
-    assert!(rt; machine.line(1) == told(21, (0, 0), Some(0)));
+    check_line(rt, machine, 0, 0, None);
+    check_line(rt, machine, 1, 2, Some(0));
+    assert!(rt; machine.line(0) == line_state(0, (20, 0), None));
+    assert!(rt; machine.line(1) == line_state(21, (0, 0), Some(0)));
     assert!(rt; machine.latest() == 21);
 }
 
-fn asks_after_the_commit<M: Memory, B: Book>(rt: &impl Abort, machine: &Machine<M, B>) {
+fn check_after_commit<M: Memory, B: Book>(rt: &impl Abort, machine: &Machine<M, B>) {
     assert!(rt; matches!(machine.phase(2), Phase::Settled { .. }));
     assert!(rt; machine.outcome(2) == Some(Outcome::Value { value: 61 }));
-    warp_has(rt, machine, 0, 20, 0);
-    line_has(rt, machine, 1, 0, None);
-    place_has(rt, machine, 0, None);
-    assert!(rt; machine.line(1) == told(21, (30, 2), None));
+    check_warp(rt, machine, 0, 20, 0);
+    check_line(rt, machine, 1, 0, None);
+    check_place(rt, machine, 0, None);
+    assert!(rt; machine.line(1) == line_state(21, (30, 2), None));
     assert!(rt; machine.latest() == 30);
     assert!(rt; machine.tables().stamp(2) == 30);
     assert!(rt; machine.memory().read(1) == Ok(61));
@@ -133,10 +132,10 @@ fn questions(rt: HostRuntime) -> Result<(), Fail> {
     let mut words = [100, 50];
     let memory = WordMemory { words: &mut words };
     let (mut machine, _) = Machine::make(memory, ExactBook::new(), &[20, 10, 30]);
-    turns(&rt, rt.alloc(), &mut machine, &ROWS)?;
-    asks_of_warps(&rt, &machine);
-    asks_of_lines(&rt, &machine);
-    turns(&rt, rt.alloc(), &mut machine, &[('C', 0, 0, 0, "ok")])?;
-    asks_after_the_commit(&rt, &machine);
+    make_calls(&rt, rt.alloc(), &mut machine, &ROWS)?;
+    check_warps(&rt, &machine);
+    check_lines(&rt, &machine);
+    make_calls(&rt, rt.alloc(), &mut machine, &[('C', 0, 0, 0, "ok")])?;
+    check_after_commit(&rt, &machine);
     Ok(())
 }

@@ -1,14 +1,10 @@
-//! What a transaction holds: its log, its lines, and the slots that these take.
-use crate::asked::{line_has, warp_has};
-use crate::rows::{Row, turns};
-use book::ExactBook;
-use condensed::CondensedBook;
-use machine::Machine;
-use memory::WordMemory;
-use rules::Phase;
+//! What a transaction holds: its log, its reserved lines, and their slots.
+use crate::tests::queries::{check_line, check_warp};
+use crate::tests::rows::{Row, make_calls};
+use harriersofa::{CondensedBook, ExactBook, Machine, Phase, WordMemory};
 use std::test::Fail;
 
-// The last of 32 stores; then every other is refused, unless something else refuses it first.
+// The last of 32 stores. Every further store gets refusal 7, unless an earlier rule refuses it.
 const FULL: [Row; 12] = [
     ('S', 0, 0, 9, "ok"),
     ('S', 0, 0, 1, "no 7 machine 32"),
@@ -34,16 +30,16 @@ fn a_log_of_32_stores(rt: HostRuntime) -> Result<(), Fail> {
         ('B', 1, 0, 0, "ok"),
         ('S', 1, 1, 71, "ok"),
     ];
-    turns(&rt, heap, &mut machine, &opened)?;
-    turns(&rt, heap, &mut machine, &[('S', 0, 0, 5, "ok"); 16])?;
-    turns(&rt, heap, &mut machine, &[('S', 0, 2, 6, "ok"); 15])?;
-    warp_has(&rt, &machine, 0, 5, 31);
-    line_has(&rt, &machine, 0, 16, Some(0));
-    line_has(&rt, &machine, 2, 15, Some(0));
-    turns(&rt, heap, &mut machine, &FULL)?;
-    warp_has(&rt, &machine, 0, 5, 0);
-    line_has(&rt, &machine, 0, 0, None);
-    line_has(&rt, &machine, 2, 0, None);
+    make_calls(&rt, heap, &mut machine, &opened)?;
+    make_calls(&rt, heap, &mut machine, &[('S', 0, 0, 5, "ok"); 16])?;
+    make_calls(&rt, heap, &mut machine, &[('S', 0, 2, 6, "ok"); 15])?;
+    check_warp(&rt, &machine, 0, 5, 31);
+    check_line(&rt, &machine, 0, 16, Some(0));
+    check_line(&rt, &machine, 2, 15, Some(0));
+    make_calls(&rt, heap, &mut machine, &FULL)?;
+    check_warp(&rt, &machine, 0, 5, 0);
+    check_line(&rt, &machine, 0, 0, None);
+    check_line(&rt, &machine, 2, 0, None);
     assert!(rt; words == [9, 71, 6]);
     Ok(())
 }
@@ -54,7 +50,7 @@ const DROPPED: [Row; 3] = [
     ('D', 0, 0, 0, "ok"),
 ];
 
-// The drop left the line's write stamp too.
+// The drop leaves the line's write stamp too.
 const OWN_DROP: [Row; 2] = [('B', 0, 0, 0, "ok"), ('L', 0, 0, 0, "gone 1 22")];
 
 #[test]
@@ -62,12 +58,12 @@ fn a_drop_leaves_memory_and_stamp(rt: HostRuntime) -> Result<(), Fail> {
     let mut words = [7];
     let memory = WordMemory { words: &mut words };
     let (mut machine, _) = Machine::make(memory, ExactBook::new(), &[20]);
-    turns(&rt, rt.alloc(), &mut machine, &DROPPED)?;
+    make_calls(&rt, rt.alloc(), &mut machine, &DROPPED)?;
     assert!(rt; matches!(machine.phase(0), Phase::Idle));
     assert!(rt; machine.value(0) == Ok(7));
-    warp_has(&rt, &machine, 0, 20, 0);
-    line_has(&rt, &machine, 0, 0, None);
-    turns(&rt, rt.alloc(), &mut machine, &OWN_DROP)
+    check_warp(&rt, &machine, 0, 20, 0);
+    check_line(&rt, &machine, 0, 0, None);
+    make_calls(&rt, rt.alloc(), &mut machine, &OWN_DROP)
 }
 
 const SIXTEEN_LINES: [Row; 19] = [
@@ -92,7 +88,7 @@ const SIXTEEN_LINES: [Row; 19] = [
     ('L', 1, 16, 0, "val 0"),
 ];
 
-// Once the sixteen lines are released the next store takes the slot of line 0, whose write stamp the filter tells then.
+// Once the sixteen lines are released, the next store takes the slot of line 0. The filter keeps that line's write stamp.
 const NO_SLOT: [Row; 5] = [
     ('S', 0, 16, 1, "gone 4 7"),
     ('B', 0, 0, 0, "ok"),
@@ -106,9 +102,9 @@ fn sixteen_slots(rt: HostRuntime) -> Result<(), Fail> {
     let mut words = [0; 17];
     let memory = WordMemory { words: &mut words };
     let (mut machine, _) = Machine::make(memory, CondensedBook::new(), &[7, 3]);
-    turns(&rt, rt.alloc(), &mut machine, &SIXTEEN_LINES)?;
-    assert!(rt; !machine.line(16).slot);
-    turns(&rt, rt.alloc(), &mut machine, &NO_SLOT)?;
+    make_calls(&rt, rt.alloc(), &mut machine, &SIXTEEN_LINES)?;
+    assert!(rt; !machine.line(16).has_slot);
+    make_calls(&rt, rt.alloc(), &mut machine, &NO_SLOT)?;
     assert!(rt; words == [0; 17]);
     Ok(())
 }

@@ -2,8 +2,8 @@
 use report::make_report;
 use std::fs;
 
-/// Prints for each stored listing that it matched, or the first row that differs and why. The file `names` has one name
-/// a line: NAME.gtm is a calls file, and NAME.txt its stored listing.
+/// Prints for each stored listing that it matched, or the first row that differs and why. The file
+/// `names` has one name a line: NAME.gtm is a calls file, and NAME.txt its stored listing.
 pub fn compare_listings(rt: &HostRuntime) -> anyhow::Result<()> {
     let names = fs::read_to_string(rt, "names")?;
     for name in names.as_str().lines() {

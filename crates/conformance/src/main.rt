@@ -1,5 +1,6 @@
-//! Conformance: the stored listings, the two version books on random calls, and every word that the program uses. The
-//! tests make calls of the machine, whose answers were worked out from the rules by hand.
+//! Conformance: the stored listings, the two version books on random calls, and every word that the
+//! program uses. The tests make calls of the machine, whose answers were worked out from the rules
+//! by hand.
 #![tactic(auto)]
 
 mod line_view;

@@ -48,7 +48,8 @@ impl MadeCall {
     }
 }
 
-/// Whether a book must grant a call, by its view of the call's line before. It must refuse every other call.
+/// Whether a book must grant a call, by its view of the call's line before. It must refuse every
+/// other call.
 pub fn must_grant(call: BookCall, view: &LineView) -> bool {
     if view.line >= LINES {
         return false;
@@ -61,8 +62,8 @@ pub fn must_grant(call: BookCall, view: &LineView) -> bool {
     }
 }
 
-/// Whether at most as many lines are reserved as the book has slots, and every line has a slot while fewer are. The views
-/// must hold every reserved line.
+/// Whether at most as many lines are reserved as the book has slots, and every line has a slot
+/// while fewer are. The views must hold every reserved line.
 pub fn slots_suffice(views: &[LineView], slots: usize) -> bool {
     let reserved = views.iter().filter(|view| view.stores > 0).count();
     reserved == slots || (reserved < slots && views.iter().all(|view| view.state.has_slot))

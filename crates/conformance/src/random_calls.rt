@@ -8,7 +8,8 @@ use std::{array, io};
 /// The number of lines that are called, and viewed after each call.
 const LINE_COUNT: usize = 100;
 
-/// The distance between those lines: each of them shares entries of the filter with some of the others.
+/// The distance between those lines: each of them shares entries of the filter with some of the
+/// others.
 const LINE_DISTANCE: u32 = 37;
 
 /// Prints what came of a thousand calls for each of three seeds.
@@ -63,7 +64,8 @@ fn next_number(seed: u32) -> u32 {
     x
 }
 
-/// A call made of three numbers. Some of these calls name a line, a stamp or a warp that every book refuses.
+/// A call made of three numbers. Some of these calls name a line, a stamp or a warp that every book
+/// refuses.
 fn call_from(which: u32, place: u32, stamp: u32) -> BookCall {
     let line = if place % 97 == 0 {
         4096
@@ -106,7 +108,8 @@ fn keeps_promises(made: MadeCall, slots: usize, before: &Snapshot, after: &Snaps
     each && slots_suffice(&after.views, slots) && made.allows_latest(before.latest, after.latest)
 }
 
-/// The number of lines that have a later stamp in the other book, or `None` if one has an earlier stamp there.
+/// The number of lines that have a later stamp in the other book, or `None` if one has an earlier
+/// stamp there.
 fn later_lines(exact: &[LineView], other: &[LineView]) -> Option<usize> {
     if other.iter().zip(exact).any(|(b, a)| b.is_earlier(a)) {
         return None;
@@ -120,8 +123,8 @@ fn later_lines(exact: &[LineView], other: &[LineView]) -> Option<usize> {
     )
 }
 
-/// A call made of both books: whether it was granted, and how many lines then have a later stamp in the condensed book.
-/// `None` if a book broke a promise.
+/// A call made of both books: whether it was granted, and how many lines then have a later stamp in
+/// the condensed book. `None` if a book broke a promise.
 fn checked_call(
     exact: &mut ExactBook,
     condensed: &mut CondensedBook,

@@ -1,4 +1,5 @@
-//! The words of the program: every cause, every refusal, and explanations in which every kind of note occurs.
+//! The words of the program: every cause, every refusal, and explanations in which every kind of
+//! note occurs.
 use explain::answer_words::{cause_words, refusal_words};
 use explain::explain;
 use harriersofa::{Cause, Refusal};

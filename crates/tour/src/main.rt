@@ -9,9 +9,9 @@ use std::fs;
 const INTRODUCTION: &str = "\
 # A tour of golden
 
-`examples/transfers.gtm` has two accounts, line 0 with 100 and line 1 with 50, and two warps, at stamps 20 and 10. Each
-warp moves 10 from one account to the other: warp 0 from line 0 to line 1, warp 1 the other way. They conflict: warp 0
-commits its transfer, and warp 1 has to begin again.
+`examples/transfers.gtm` has two accounts, line 0 with 100 and line 1 with 50, and two warps, at
+stamps 20 and 10. Each warp moves 10 from one account to the other: warp 0 from line 0 to line 1,
+warp 1 the other way. They conflict: warp 0 commits its transfer, and warp 1 has to begin again.
 ";
 
 fn main(rt: HostRuntime) -> anyhow::Result<()> {

@@ -1,12 +1,16 @@
 //! The library by example: two warps transfer between lines of a memory of two banks.
 #![tactic(auto)]
 
+ghost use Rattle.std.specs.Prelude.{◌≡◌};
+ghost use Rattle.harriersofa.specs.MachineMeaning.{state};
+
 use harriersofa::{
     Answer, Book, ByteMemory, ExactBook, Fault, Machine, Memory, SplitMemory, WordMemory,
 };
 use std::io;
 
-// Even lines are words, and odd lines are four bytes each: line 0 holds 100, line 1 holds 50, line 2 holds 7.
+// Even lines are words, and odd lines are four bytes each: line 0 holds 100, line 1 holds 50, line
+// 2 holds 7.
 fn main(rt: HostRuntime) -> io::Result<()> {
     let mut words = [100, 7];
     let mut bytes = [50, 0, 0, 0];
@@ -23,11 +27,19 @@ fn show<M: Memory + Drop, B: Book + Drop>(rt: &impl Print, memory: M, book: B) -
     transfer(rt, &mut machine)?;
     wait_and_fetch(rt, &mut machine)?;
     for line in 0..3 {
-        if let Ok(value) = machine.memory().read(line) {
+        if let Some(value) = line_value(&machine, line) {
             println!(rt; "line {line} is left at {value}")?;
         }
     }
     Ok(())
+}
+
+// The value of a line, if the memory has it. The contract speaks of the machine's state, over any
+// memory and any book.
+fn line_value<M: Memory, B: Book>(machine: &Machine<M, B>, line: u32) -> Option<u32>
+    ensures { result ≡ (state M.at B.kind B.model machine.now).lines line }
+{
+    machine.value(line).ok()
 }
 
 // Warp 0 moves 10 from line 0 to line 1. No bank has line 3.
@@ -43,8 +55,8 @@ fn transfer<M: Memory, B: Book>(rt: &impl Print, machine: &mut Machine<M, B>) ->
     Ok(())
 }
 
-// Warp 1 is too early in logical time: its transaction is gone. It begins again at a later stamp, waits until warp 0
-// commits, and fetches the value that warp 0 left.
+// Warp 1 is too early in logical time: its transaction is gone. It begins again at a later stamp,
+// waits until warp 0 commits, and fetches the value that warp 0 left.
 fn wait_and_fetch<M: Memory, B: Book>(
     rt: &impl Print,
     machine: &mut Machine<M, B>,

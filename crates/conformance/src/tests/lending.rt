@@ -1,4 +1,5 @@
-//! What a run leaves in the slices that a caller lends it: the answers in their places, and the memory's new lines.
+//! What a run leaves in the slices that a caller lends it: the answers in their places, and the
+//! memory's new lines.
 ghost use Rattle.std.specs.Prelude.{◌≡◌, ◌∷◌};
 ghost use Rattle.harriersofa.specs.Lines.{word_lines, byte_lines, odd_bytes};
 ghost use Rattle.harriersofa.specs.Exact.{exact, exact_new};
@@ -10,8 +11,8 @@ use std::alloc::Global;
 use std::process::Abort;
 use std::test::Fail;
 
-/// A memory that is itself borrowed. The checker follows a lent slice through a run only over a memory that is passed
-/// by reference.
+/// A memory that is itself borrowed. The checker follows a lent slice through a run only over a
+/// memory that is passed by reference.
 #[derive(Drop)]
 struct LentMemory<'a, M> {
     memory: &'a mut M,
@@ -33,8 +34,9 @@ impl<'a, M: Memory> Memory for LentMemory<'a, M> {
     }
 }
 
-/// Runs calls over a lent memory and the exact book. Once the machine is gone, the lender knows: the lines are what the
-/// run left, the memory borrows the same slice as before, and whatever is in no line is as it was.
+/// Runs calls over a lent memory and the exact book. Once the machine is gone, the lender knows:
+/// the lines are what the run left, the memory borrows the same slice as before, and whatever is in
+/// no line is as it was.
 fn runs_over<M: Memory>(
     memory: &mut M,
     stamps: &[u32],

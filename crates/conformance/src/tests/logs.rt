@@ -88,7 +88,8 @@ const SIXTEEN_LINES: [Row; 19] = [
     ('L', 1, 16, 0, "val 0"),
 ];
 
-// Once the sixteen lines are released, the next store takes the slot of line 0. The filter keeps that line's write stamp.
+// Once the sixteen lines are released, the next store takes the slot of line 0. The filter keeps
+// that line's write stamp.
 const NO_SLOT: [Row; 5] = [
     ('S', 0, 16, 1, "gone 4 7"),
     ('B', 0, 0, 0, "ok"),

@@ -45,7 +45,8 @@ fn a_fifth_line_is_too_many(rt: HostRuntime) -> Result<(), Fail> {
     )
 }
 
-// Warps 1 to 4 wait at stamps 9, 5, 5 and 7. The load of warp 2 is tried first; then the store of warp 3 takes the line.
+// Warps 1 to 4 wait at stamps 9, 5, 5 and 7. The load of warp 2 is tried first; then the store of
+// warp 3 takes the line.
 const IN_TURN: [Row; 14] = [
     ('B', 0, 0, 0, "ok"),
     ('B', 1, 0, 0, "ok"),
@@ -63,7 +64,8 @@ const IN_TURN: [Row; 14] = [
     ('F', 4, 0, 0, "wait"),
 ];
 
-// The load of warp 4 at stamp 7 is tried before the store of warp 1 at stamp 9, which arrived earlier.
+// The load of warp 4 at stamp 7 is tried before the store of warp 1 at stamp 9, which arrived
+// earlier.
 const NEXT_TURN: [Row; 5] = [
     ('C', 3, 0, 0, "ok"),
     ('F', 4, 0, 0, "val 13"),
@@ -89,7 +91,8 @@ fn requests_have_their_turns(rt: HostRuntime) -> Result<(), Fail> {
     Ok(())
 }
 
-// The store of warp 2 takes line 0 before the load of warp 1 is tried. Warp 3 waits for the line that warp 1 holds.
+// The store of warp 2 takes line 0 before the load of warp 1 is tried. Warp 3 waits for the line
+// that warp 1 holds.
 const OVERTAKEN: [Row; 10] = [
     ('B', 0, 0, 0, "ok"),
     ('B', 1, 0, 0, "ok"),

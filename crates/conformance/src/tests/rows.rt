@@ -1,4 +1,5 @@
-//! Rows of calls with the answers that they must get, and functions that make the calls and check the answers.
+//! Rows of calls with the answers that they must get, and functions that make the calls and check
+//! the answers.
 use harriersofa::{
     Answer, Book, Call, ExactBook, Fault, Layer, Machine, Memory, Op, WordMemory, run_to_vec,
 };
@@ -6,8 +7,8 @@ use std::alloc::{AllocError, Global};
 use std::process::Abort;
 use std::test::Fail;
 
-/// A call's letter, its warp, line and value (0 if the call takes none), and its answer as listings print it. A refusal
-/// is followed by its layer and its offending number.
+/// A call's letter, its warp, line and value (0 if the call takes none), and its answer as listings
+/// print it. A refusal is followed by its layer and its offending number.
 pub type Row<'a> = (char, u32, u32, u32, &'a str);
 
 fn layer_word(layer: Layer) -> &'static str {

@@ -1,6 +1,6 @@
 //! The promises of a version book, checked on what it says of the lines before and after a call.
 use crate::line_view::LineView;
-use book::{BookCall, can_be};
+use book::{BookCall, is_valid_time};
 use harriersofa::limits::{LINES, STORES};
 
 /// A call of a book, and whether the book granted it.
@@ -55,8 +55,10 @@ pub fn must_grant(call: BookCall, view: &LineView) -> bool {
         return false;
     }
     match call {
-        BookCall::Note { time, .. } => can_be(time),
-        BookCall::Reserve { time, .. } => can_be(time) && view.stores == 0 && view.state.has_slot,
+        BookCall::Note { time, .. } => is_valid_time(time),
+        BookCall::Reserve { time, .. } => is_valid_time(time)
+            && view.stores == 0
+            && view.state.has_slot,
         BookCall::Add { .. } => view.stores > 0 && (view.stores as usize) < STORES,
         BookCall::Release { .. } => true,
     }

@@ -1,5 +1,5 @@
 //! The stored listings, each compared with the listing of its calls file.
-use report::make_report;
+use report::compare_listing;
 use std::fs;
 
 /// Prints for each stored listing that it matched, or the first row that differs and why. The file
@@ -16,7 +16,7 @@ fn compare(rt: &HostRuntime, name: &str) -> anyhow::Result<()> {
     let heap = rt.alloc();
     let calls = fs::read(rt, format!(in heap; "{name}.gtm")?)?;
     let stored = fs::read(rt, format!(in heap; "{name}.txt")?)?;
-    let report = make_report(heap, calls.as_slice(), stored.as_slice())?;
+    let report = compare_listing(heap, calls.as_slice(), stored.as_slice())?;
     if report.matches {
         println!(rt; "{name} matched")?;
     } else {

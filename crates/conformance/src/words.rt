@@ -1,7 +1,7 @@
 //! The words of the program: every cause, every refusal, and explanations in which every kind of
 //! note occurs.
 use explain::answer_words::{cause_words, refusal_words};
-use explain::explain;
+use explain::annotate;
 use harriersofa::{Cause, Refusal};
 use std::fs;
 
@@ -48,7 +48,7 @@ pub fn print_words(rt: &HostRuntime) -> anyhow::Result<()> {
 
 fn print_explanation(rt: &HostRuntime, name: &str) -> anyhow::Result<()> {
     let calls = fs::read(rt, name)?;
-    let explained = explain(rt.alloc(), calls.as_slice())?;
+    let explained = annotate(rt.alloc(), calls.as_slice())?;
     print!(rt; "\n{name}\n{}", explained.as_str())?;
     Ok(())
 }

@@ -4,7 +4,7 @@
 //! finds, `after` the state that it leaves, and `call` makes the call between the two. Their
 //! contracts say what each fact is in the state of the rules. Then `words` puts these facts, and
 //! nothing else, into words, and `note` adds the words to the text, indented. No contract speaks of
-//! the words: the stored outputs of the programs `tour` and `every_word` hold them.
+//! the words: the stored outputs of the programs `tour` and `conformance` hold them.
 #![tactic(auto)]
 
 pub mod after;

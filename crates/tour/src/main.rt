@@ -1,9 +1,9 @@
 //! Prints docs/TOUR.md: what golden prints for an example, by the libraries that golden is made of.
 #![tactic(auto)]
 
-use explain::explain;
+use explain::annotate;
 use listing::list;
-use report::make_report;
+use report::compare_listing;
 use std::fs;
 
 const INTRODUCTION: &str = "\
@@ -26,7 +26,7 @@ fn tour(rt: &HostRuntime) -> anyhow::Result<()> {
     let listed = list(heap, calls.as_slice())?;
     show(rt, "golden transfers.gtm", listed.as_str())?;
     println!(rt; "\n## A listing that matches\n")?;
-    let same = make_report(heap, calls.as_slice(), listed.as_bytes())?;
+    let same = compare_listing(heap, calls.as_slice(), listed.as_bytes())?;
     show(
         rt,
         "golden --compare ours.txt transfers.gtm",
@@ -35,14 +35,14 @@ fn tour(rt: &HostRuntime) -> anyhow::Result<()> {
     println!(rt;
         "\n## A listing that differs\n\nThe simulator let the load of row 7 through. The status is 1.\n"
     )?;
-    let other = make_report(heap, calls.as_slice(), theirs.as_slice())?;
+    let other = compare_listing(heap, calls.as_slice(), theirs.as_slice())?;
     show(
         rt,
         "golden --compare theirs.txt transfers.gtm",
         other.text.as_str(),
     )?;
     println!(rt; "\n## Why each row is as it is\n")?;
-    let explained = explain(heap, calls.as_slice())?;
+    let explained = annotate(heap, calls.as_slice())?;
     show(rt, "golden --explain transfers.gtm", explained.as_str())
 }
 

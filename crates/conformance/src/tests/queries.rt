@@ -84,7 +84,7 @@ fn line_state(write_stamp: u32, read_mark: (u32, u32), owner: Option<u32>) -> Li
 }
 
 fn check_warps<M: Memory, B: Book>(rt: &impl Abort, machine: &Machine<M, B>) {
-    assert!(rt; machine.warps() == 3);
+    assert!(rt; machine.warp_count() == 3);
     assert!(rt; matches!(machine.phase(0), Phase::Open));
     assert!(rt; matches!(machine.phase(1), Phase::Idle));
     assert!(rt; matches!(machine.phase(2), Phase::Waiting));
@@ -122,7 +122,7 @@ fn check_after_commit<M: Memory, B: Book>(rt: &impl Abort, machine: &Machine<M, 
     check_place(rt, machine, 0, None);
     assert!(rt; machine.line(1) == line_state(21, (30, 2), None));
     assert!(rt; machine.latest() == 30);
-    assert!(rt; machine.tables().stamp(2) == 30);
+    assert!(rt; machine.warps().stamp(2) == 30);
     assert!(rt; machine.memory().read(1) == Ok(61));
     assert!(rt; machine.book().write_stamp(1) == 21);
 }

@@ -34,7 +34,7 @@ fn check_refusal(
     let fault = shape.err().ok_or("the shape is taken")?;
     let text = fault_text(heap, fault)?;
     assert_eq!(rt; text.as_str(), refusal);
-    assert!(rt; machine.warps() == 0);
+    assert!(rt; machine.warp_count() == 0);
     make_calls(rt, heap, &mut machine, &NO_WARP)
 }
 
@@ -55,7 +55,7 @@ fn the_largest_shape(rt: HostRuntime) -> Result<(), Fail> {
     let memory = WordMemory { words: &mut words };
     let (mut machine, shape) = Machine::make(memory, ExactBook::new(), &[1_000_000_000; 32]);
     assert!(rt; shape.is_ok());
-    assert!(rt; machine.warps() == 32);
+    assert!(rt; machine.warp_count() == 32);
     let rows = [('B', 31, 0, 0, "ok"), ('B', 32, 0, 0, "no 1 machine 32")];
     make_calls(&rt, rt.alloc(), &mut machine, &rows)
 }

@@ -28,11 +28,14 @@ use Rattle.book.specs.Lemmas.ExactKeeps.{line_in_range, entry_at-with_entry}
 
 -- Some line of the exact book has a stamp as late as its latest stamp.
 LatestIsReached : Exact → Type 0
-LatestIsReached e = (n : ℕ) × (n < line_limit) × (e.latest ≤ max (entry_at e n).stamps.write (entry_at e n).stamps.read.0)
+LatestIsReached e = (n : ℕ) × (n < line_limit)
+    × (e.latest ≤ max (entry_at e n).stamps.write (entry_at e n).stamps.read.0)
 
-module _ (e : Exact) (fine : exact.Good e) (line : ℕ) (lt : line < line_limit) (x : Entry) (stamp : ℕ) where
+module _ (e : Exact) (fine : exact.Good e) (line : ℕ) (lt : line < line_limit) (x : Entry)
+    (stamp : ℕ) where
   latest_reached_with :
-      StampsGrow exact e (with_entry e line x stamp) → stamp ≤ max x.stamps.write x.stamps.read.0 → LatestIsReached e
+      StampsGrow exact e (with_entry e line x stamp) → stamp ≤ max x.stamps.write x.stamps.read.0
+      → LatestIsReached e
       → LatestIsReached (with_entry e line x stamp)
   unfolding LatestIsReached
   latest_reached_with grows has reached = by (leb stamp e.latest) refl
@@ -42,7 +45,8 @@ module _ (e : Exact) (fine : exact.Good e) (line : ℕ) (lt : line < line_limit)
           let more = leb-true stamp e.latest up in
           let w = grows.stamp_grows reached.0 reached.1 in
           let after : Entry = entry_at (with_entry e line x stamp) reached.0 in
-          let r = stamp_bound_by_time (entry_at e reached.0).stamps.read after.stamps.read (grows.mark_grows reached.0 reached.1) in
+          let r = stamp_bound_by_time (entry_at e reached.0).stamps.read after.stamps.read
+          (grows.mark_grows reached.0 reached.1) in
           (reached.0, reached.1, (let was = reached.2 in omega arith))
       by false up =
           let less = leb-false stamp e.latest up in
@@ -59,27 +63,35 @@ module _ (k : Kind) (keeps : Keeps k) where
     reached : LatestIsReached e
 
   -- One entry of the exact book is set, no later than what the other book says of the line.
-  module _ (s s' : k.State) (e : Exact) (f : Follows s e) (line : ℕ) (lt : line < line_limit) (x : Entry)
+  module _ (s s' : k.State) (e : Exact) (f : Follows s e) (line : ℕ) (lt : line < line_limit)
+      (x : Entry)
       (stamp : ℕ) where
     follows_with :
         k.Good s' → exact.Good (with_entry e line x stamp) → StampsGrow k s s'
-        → StampsGrow exact e (with_entry e line x stamp) → stamp ≤ max x.stamps.write x.stamps.read.0
-        → x.stamps.write ≤ k.write_stamp s' line → earlier (k.read_mark s' line) x.stamps.read ≡ false
-        → entry_stores x ≡ k.stores s' line → ((n : ℕ) → n < line_limit → (n ≡ line → ⊥) → k.stores s' n ≡ k.stores s n)
+        → StampsGrow exact e (with_entry e line x stamp)
+        → stamp ≤ max x.stamps.write x.stamps.read.0
+        → x.stamps.write ≤ k.write_stamp s' line
+        → earlier (k.read_mark s' line) x.stamps.read ≡ false
+        → entry_stores x ≡ k.stores s' line
+        → ((n : ℕ) → n < line_limit → (n ≡ line → ⊥) → k.stores s' n ≡ k.stores s n)
         → Follows s' (with_entry e line x stamp)
     follows_with good fine grows later has w r c same =
         record {
           good = good;
           fine = fine;
-          stamps = λ n l. holds_after_set_by_place (λ y. y.stamps.write ≤ k.write_stamp s' n) e.entries line n x untouched_entry room
+          stamps = λ n l. holds_after_set_by_place
+              (λ y. y.stamps.write ≤ k.write_stamp s' n) e.entries line n x untouched_entry room
               (λ is. subst (λ m. x.stamps.write ≤ k.write_stamp s' m) (sym is) w)
               (λ _. let a = f.stamps n l in let b = grows.stamp_grows n l in omega arith);
-          marks = λ n l. holds_after_set_by_place (λ y. earlier (k.read_mark s' n) y.stamps.read ≡ false)
+          marks = λ n l. holds_after_set_by_place
+              (λ y. earlier (k.read_mark s' n) y.stamps.read ≡ false)
               e.entries line n x untouched_entry room
               (λ is. subst (λ m. earlier (k.read_mark s' m) x.stamps.read ≡ false) (sym is) r)
-              (λ _. not_earlier_chain (entry_at e n).stamps.read (k.read_mark s n) (k.read_mark s' n) (f.marks n l)
+              (λ _. not_earlier_chain (entry_at e n).stamps.read (k.read_mark s n)
+              (k.read_mark s' n) (f.marks n l)
               (grows.mark_grows n l));
-          counts = λ n l. holds_after_set_by_place (λ y. entry_stores y ≡ k.stores s' n) e.entries line n x untouched_entry room
+          counts = λ n l. holds_after_set_by_place
+              (λ y. entry_stores y ≡ k.stores s' n) e.entries line n x untouched_entry room
               (λ is. subst (λ m. entry_stores x ≡ k.stores s' m) (sym is) c)
               (λ ne. f.counts n l ∙ sym (same n l ne));
           reached = latest_reached_with e f.fine line lt x stamp later has f.reached;
@@ -97,19 +109,23 @@ module _ (k : Kind) (keeps : Keeps k) where
     granted_too : (call : BookCall) → is_granted k s call ≡ true → is_granted exact e call ≡ true
     granted_too (Note line t) can = can
     granted_too (Reserve line t) can =
-        let parts = and_parts (can_note k s line t) (not (is_reserved k s line) && k.has_slot s line) can in
+        let parts = and_parts (can_note k s line t)
+        (not (is_reserved k s line) && k.has_slot s line) can in
         let lt : line < line_limit = line_in_range line _ parts.0 in
-        and_from (can_note exact e line t) (not (is_reserved exact e line) && exact.has_slot e line) parts.0
+        and_from (can_note exact e line t) (not (is_reserved exact e line) && exact.has_slot e line)
+        parts.0
         (and_from (not (is_reserved exact e line)) (exact.has_slot e line)
         (same_count line lt (λ m. not (not (eqb m 0)) ≡ true)
         (and_parts (not (is_reserved k s line)) (k.has_slot s line) parts.1).0)
         (lt-ltb line line_limit lt))
     granted_too (Add line) can =
         let lt : line < line_limit = line_in_range line _ can in
-        same_count line lt (λ m. (ltb line line_limit && (not (eqb m 0) && ltb m log_limit)) ≡ true) can
+        same_count line lt (λ m. (ltb line line_limit && (not (eqb m 0) && ltb m log_limit)) ≡ true)
+        can
     granted_too (Release line) can = can
 
-    granted_step : (call : BookCall) → is_granted k s call ≡ true → Follows (state_after_granted k s call) (state_after_granted exact e call)
+    granted_step : (call : BookCall) → is_granted k s call ≡ true
+        → Follows (state_after_granted k s call) (state_after_granted exact e call)
     granted_step (Note line t) can =
         let lt : line < line_limit = line_in_range line _ can in
         let there = keeps.notes s f.good line t can in
@@ -117,12 +133,16 @@ module _ (k : Kind) (keeps : Keeps k) where
         let grows = there.1.grows in
         let a = f.stamps line lt in
         let b = grows.stamp_grows line lt in
-        follows_with s (k.note s line t) e f line lt (entry_after_read (entry_at e line) t) t.0 there.0
+        follows_with s (k.note s line t) e f line lt
+        (entry_after_read (entry_at e line) t) t.0 there.0
         here.0 grows here.1.grows
-        (let l = stamp_bound_by_time t _ (later_of_second (entry_at e line).stamps.read t) in omega arith) (omega arith)
+        (let l = stamp_bound_by_time t _ (later_of_second (entry_at e line).stamps.read t)
+        in omega arith) (omega arith)
         (later_of_least (entry_at e line).stamps.read t (k.read_mark (k.note s line t) line)
-        (not_earlier_chain _ (k.read_mark s line) _ (f.marks line lt) (grows.mark_grows line lt)) there.1.reaches)
-        (f.counts line lt ∙ sym (there.1.stays line lt).same_stores) (λ n l _. (there.1.stays n l).same_stores)
+        (not_earlier_chain _ (k.read_mark s line) _ (f.marks line lt) (grows.mark_grows line lt))
+        there.1.reaches)
+        (f.counts line lt ∙ sym (there.1.stays line lt).same_stores)
+        (λ n l _. (there.1.stays n l).same_stores)
     granted_step (Reserve line t) can =
         let lt : line < line_limit = line_in_range line _ (and_parts _ _ can).0 in
         let there = keeps.reserves s f.good line t can in
@@ -131,7 +151,8 @@ module _ (k : Kind) (keeps : Keeps k) where
         let a = f.stamps line lt in
         let b = grows.stamp_grows line lt in
         let c = there.1.passes in
-        follows_with s (k.reserve s line t) e f line lt (entry_after_reserve (entry_at e line) t) (t.0 + 1) there.0
+        follows_with s (k.reserve s line t) e f line lt (entry_after_reserve (entry_at e line) t)
+        (t.0 + 1) there.0
         here.0 grows here.1.grows (omega arith) (omega arith)
         (later_of_least (entry_at e line).stamps.read (0, 0) (k.read_mark (k.reserve s line t) line)
         (not_earlier_chain _ (k.read_mark s line) _ (f.marks line lt) (grows.mark_grows line lt))
@@ -144,10 +165,12 @@ module _ (k : Kind) (keeps : Keeps k) where
         let grows = there.1.grows in
         let a = f.stamps line lt in
         let b = grows.stamp_grows line lt in
-        follows_with s (k.add s line) e f line lt (entry_after_add (entry_at e line)) 0 there.0 here.0 grows here.1.grows
+        follows_with s (k.add s line) e f line lt
+        (entry_after_add (entry_at e line)) 0 there.0 here.0 grows here.1.grows
         (omega arith) (omega arith)
         (not_earlier_chain _ (k.read_mark s line) _ (f.marks line lt) (grows.mark_grows line lt))
-        (hold_stores-hold_of (unwrap_or (entry_owner (entry_at e line)) 0) _ ∙ ap (λ m. m + 1) (f.counts line lt)
+        (hold_stores-hold_of (unwrap_or (entry_owner (entry_at e line)) 0) _
+        ∙ ap (λ m. m + 1) (f.counts line lt)
         ∙ sym there.1.one_more) (λ n l ne. (there.1.stays n l ne).same_stores)
     granted_step (Release line) can =
         let lt : line < line_limit = ltb-true line line_limit can in
@@ -156,7 +179,8 @@ module _ (k : Kind) (keeps : Keeps k) where
         let grows = there.1.grows in
         let a = f.stamps line lt in
         let b = grows.stamp_grows line lt in
-        follows_with s (k.release s line) e f line lt (entry_after_release (entry_at e line)) 0 there.0 here.0 grows
+        follows_with s (k.release s line) e f line lt
+        (entry_after_release (entry_at e line)) 0 there.0 here.0 grows
         here.1.grows (omega arith) (omega arith)
         (not_earlier_chain _ (k.read_mark s line) _ (f.marks line lt) (grows.mark_grows line lt))
         (sym there.1.no_stores) (λ n l ne. (there.1.stays n l ne).same_stores)
@@ -164,7 +188,8 @@ module _ (k : Kind) (keeps : Keeps k) where
   Followed : k.State × Exact → Type 0
   Followed both = Follows both.0 both.1
 
-  step : (both : k.State × Exact) → Followed both → (call : BookCall) → Followed (both_after_call k both call)
+  step : (both : k.State × Exact) → Followed both → (call : BookCall)
+      → Followed (both_after_call k both call)
   unfolding Followed
   step both f call = by (is_granted k both.0 call) refl
     where
@@ -172,12 +197,14 @@ module _ (k : Kind) (keeps : Keeps k) where
           (cond b (state_after_granted k both.0 call, state_after_call exact both.1 call) both)
       by true can =
           subst (λ e. Follows (state_after_granted k both.0 call) e)
-          (sym (cond-true (is_granted exact both.1 call) (state_after_granted exact both.1 call) both.1
+          (sym (cond-true (is_granted exact both.1 call)
+          (state_after_granted exact both.1 call) both.1
           (granted_too both.0 both.1 f call can)))
           (granted_step both.0 both.1 f call can)
       by false can = f
 
-  run : (both : k.State × Exact) → Followed both → (calls : List BookCall) → Followed (both_after_calls k both calls)
+  run : (both : k.State × Exact) → Followed both → (calls : List BookCall)
+      → Followed (both_after_calls k both calls)
   run both f [] = f
   run both f (call ∷ calls) = run (both_after_call k both call) (step both f call) calls
 
@@ -187,8 +214,10 @@ module _ (k : Kind) (keeps : Keeps k) where
       record {
         good = good;
         fine = exact_new_is_sound;
-        stamps = λ n l. subst (λ x. x.stamps.write ≤ k.write_stamp s n) (sym (entry_at-exact_new n)) (omega arith);
-        marks = λ n l. subst (λ x. earlier (k.read_mark s n) x.stamps.read ≡ false) (sym (entry_at-exact_new n))
+        stamps = λ n l. subst (λ x. x.stamps.write ≤ k.write_stamp s n) (sym (entry_at-exact_new n))
+            (omega arith);
+        marks = λ n l. subst (λ x. earlier (k.read_mark s n) x.stamps.read ≡ false)
+            (sym (entry_at-exact_new n))
             (not_earlier_than_zero (k.read_mark s n));
         counts = λ n l. ap entry_stores (entry_at-exact_new n) ∙ sym (new.no_store n l);
         reached = (0, omega arith, omega arith);
@@ -220,22 +249,27 @@ module _ (k : Kind) (keeps : Keeps k) where
       }
 
 -- What a book answers says whether both get the call.
-module _ (k : Kind) (s s' : k.State) (e e' : Exact) (call : BookCall) (after : s' ≡ state_after_call k s call) where
-  pub both_made : Ok tt ≡ grant_result (is_granted k s call) → e' ≡ state_after_call exact e call → (s', e') ≡ both_after_call k (s, e) call
+module _ (k : Kind) (s s' : k.State) (e e' : Exact) (call : BookCall)
+    (after : s' ≡ state_after_call k s call) where
+  pub both_made : Ok tt ≡ grant_result (is_granted k s call) → e' ≡ state_after_call exact e call
+      → (s', e') ≡ both_after_call k (s, e) call
   both_made answer also = by (is_granted k s call) after answer
     where
       by :
           (b : Bool) → s' ≡ cond b (state_after_granted k s call) s → Ok tt ≡ grant_result b
-          → ◌≡◌ {A = k.State × Exact} (s', e') (cond b (state_after_granted k s call, state_after_call exact e call) (s, e))
+          → ◌≡◌ {A = k.State × Exact} (s', e')
+          (cond b (state_after_granted k s call, state_after_call exact e call) (s, e))
       by true is h = λ i. (is i, also i)
       by false is h = absurd cc
 
-  pub neither_made : (r : Refused) → Err r ≡ grant_result (is_granted k s call) → (s', e) ≡ both_after_call k (s, e) call
+  pub neither_made : (r : Refused) → Err r ≡ grant_result (is_granted k s call)
+      → (s', e) ≡ both_after_call k (s, e) call
   neither_made r answer = by (is_granted k s call) after answer
     where
       by :
           (b : Bool) → s' ≡ cond b (state_after_granted k s call) s → Err r ≡ grant_result b
-          → ◌≡◌ {A = k.State × Exact} (s', e) (cond b (state_after_granted k s call, state_after_call exact e call) (s, e))
+          → ◌≡◌ {A = k.State × Exact} (s', e)
+          (cond b (state_after_granted k s call, state_after_call exact e call) (s, e))
       by true is h = absurd cc
       by false is h = λ i. (is i, e)
 

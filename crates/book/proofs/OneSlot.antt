@@ -21,7 +21,8 @@ second = exact_keeps.reserves one first.0 1 (0, 0) refl
 
 both_reserved : (n : ℕ) → n < 2 → is_reserved exact two n ≡ true
 both_reserved zero lt =
-    let here : exact.stores two 0 ≡ 1 = (second.1.stays 0 (omega arith) (λ e. omega arith)).same_stores
+    let here : exact.stores two 0 ≡ 1 =
+    (second.1.stays 0 (omega arith) (λ e. omega arith)).same_stores
     ∙ first.1.one_store in
     ap (λ m. not (m == 0)) here
 both_reserved (suc zero) lt = ap (λ m. not (m == 0)) second.1.one_store
@@ -36,5 +37,6 @@ too_few s good two_lines keeps = more (reserved_count exact s) two_lines (keeps.
 pub one_slot_is_too_few : OneSlotIsTooFew
 one_slot_is_too_few =
     too_few two second.0
-    (different_lines 2 line_limit (λ n. n) (is_reserved exact two) (λ n lt. (omega arith, both_reserved n lt))
+    (different_lines 2 line_limit (λ n. n) (is_reserved exact two)
+    (λ n lt. (omega arith, both_reserved n lt))
     (λ i j _ _ e. e))

@@ -28,7 +28,8 @@ module _ (k : Kind) (s : k.State) where
 -- goes to neither.
 abbrev pub both_after_call : (k : Kind) → k.State × Exact → BookCall → k.State × Exact
 both_after_call k both call =
-    cond (is_granted k both.0 call) (state_after_granted k both.0 call, state_after_call exact both.1 call) both
+    cond (is_granted k both.0 call)
+    (state_after_granted k both.0 call, state_after_call exact both.1 call) both
 
 abbrev pub both_after_calls : (k : Kind) → k.State × Exact → List BookCall → k.State × Exact
 both_after_calls k both [] = both
@@ -38,9 +39,11 @@ both_after_calls k both (call ∷ calls) = both_after_calls k (both_after_call k
 -- latest stamp, and it grants every call that the other grants.
 pub record NoLater (k : Kind) (both : k.State × Exact) : Type 0 where
   pub stamps : (n : ℕ) → n < line_limit → exact.write_stamp both.1 n ≤ k.write_stamp both.0 n
-  pub marks : (n : ℕ) → n < line_limit → earlier (k.read_mark both.0 n) (exact.read_mark both.1 n) ≡ false
+  pub marks : (n : ℕ) → n < line_limit
+      → earlier (k.read_mark both.0 n) (exact.read_mark both.1 n) ≡ false
   pub latest : exact.latest both.1 ≤ k.latest both.0
-  pub grants_too : (call : BookCall) → is_granted k both.0 call ≡ true → is_granted exact both.1 call ≡ true
+  pub grants_too : (call : BookCall) → is_granted k both.0 call ≡ true
+      → is_granted exact both.1 call ≡ true
 
 -- That holds after any calls of two new books.
 abbrev pub IsEarliest : Kind → Type 0

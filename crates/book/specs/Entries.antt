@@ -60,10 +60,12 @@ hold_of warp (suc n) = Some (record { warp = warp; stores = suc n; some = zero-l
 -- A line that a warp reserves, its write stamp raised to a stamp; a line with another number of
 -- stores.
 abbrev pub reserved_entry : Entry → ℕ → ℕ → Entry
-reserved_entry e warp stamp = record { stamps = later_stamps e.stamps (write_stamps stamp); hold = hold_of warp 1 }
+reserved_entry e warp stamp =
+    record { stamps = later_stamps e.stamps (write_stamps stamp); hold = hold_of warp 1 }
 
 abbrev pub entry_with_stores : Entry → ℕ → Entry
-entry_with_stores e stores = record { stamps = e.stamps; hold = hold_of (unwrap_or (entry_owner e) 0) stores }
+entry_with_stores e stores =
+    record { stamps = e.stamps; hold = hold_of (unwrap_or (entry_owner e) 0) stores }
 
 -- A line after each call. A read raises its read mark. A reservation gives it to the time's warp,
 -- and a transaction whose stamp is not later comes too late from then on. An add counts one more

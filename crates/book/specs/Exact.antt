@@ -29,7 +29,8 @@ AreReadBy entries latest = (n : ℕ) → (get_or entries n untouched_entry).stam
 -- and a write stamp above 0 for every line that stores hold.
 abbrev pub HeldAreStamped : List Entry → Type 0
 HeldAreStamped entries =
-    (n : ℕ) → 0 < entry_stores (get_or entries n untouched_entry) → 0 < (get_or entries n untouched_entry).stamps.write
+    (n : ℕ) → 0 < entry_stores (get_or entries n untouched_entry)
+    → 0 < (get_or entries n untouched_entry).stamps.write
 
 -- All of it together.
 pub record IsSound (s : Exact) : Type 0 where
@@ -41,7 +42,8 @@ pub record IsSound (s : Exact) : Type 0 where
 -- An entry that a sound state with this latest stamp may have.
 abbrev pub FitsWithin : ℕ → Entry → Type 0
 FitsWithin latest e =
-    (e.stamps.write ≤ latest) × (e.stamps.read.0 ≤ latest) × (0 < entry_stores e → 0 < e.stamps.write)
+    (e.stamps.write ≤ latest) × (e.stamps.read.0 ≤ latest)
+    × (0 < entry_stores e → 0 < e.stamps.write)
 
 module _ (s : Exact) where
   -- The entry of a line. A line past the last is as one that no call has named.
@@ -50,7 +52,8 @@ module _ (s : Exact) where
 
   -- A call sets the entry of its line, and raises the latest stamp if it is earlier.
   abbrev pub with_entry : ℕ → Entry → ℕ → Exact
-  with_entry line e stamp = record { entries = slice_set s.entries line e; latest = max s.latest stamp }
+  with_entry line e stamp =
+      record { entries = slice_set s.entries line e; latest = max s.latest stamp }
 
 -- The exact book has a slot for each line, and each call changes the entry of its line alone.
 abbrev pub exact : Kind

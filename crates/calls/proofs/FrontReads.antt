@@ -33,8 +33,10 @@ module _ (bytes : List ℕ) (n : ℕ) (long : n < length bytes) (enough : longes
   two_alike : (place : ℕ) → place + 2 ≤ n → two_bytes front place ≡ two_bytes bytes place
   two_alike place h = same_two place place 2 (alike place 2 h) (omega arith)
 
-  numbers_alike : (count place : ℕ) → place + 4 * count ≤ n → numbers front place count ≡ numbers bytes place count
-  numbers_alike count place h = same_numbers count place place (4 * count) (alike place (4 * count) h) (omega arith)
+  numbers_alike : (count place : ℕ) → place + 4 * count ≤ n
+      → numbers front place count ≡ numbers bytes place count
+  numbers_alike count place h =
+      same_numbers count place place (4 * count) (alike place (4 * count) h) (omega arith)
 
   row_alike : (place : ℕ) → place + 8 ≤ n → row_at front place ≡ row_at bytes place
   row_alike place h =
@@ -47,7 +49,8 @@ module _ (bytes : List ℕ) (n : ℕ) (long : n < length bytes) (enough : longes
       (ap (λ c. ok_or (option_map Some c) (fault_in_file BadLetter place))
       (same_call place place 8 (alike place 8 h) (omega arith)))
 
-  rows_alike : (more place : ℕ) → place + 8 * more < n → rows_from front more place ≡ rows_from bytes more place
+  rows_alike : (more place : ℕ) → place + 8 * more < n
+      → rows_from front more place ≡ rows_from bytes more place
   unfolding rows_from
   rows_alike zero place h =
       let e = front_length in
@@ -67,7 +70,13 @@ module _ (bytes : List ℕ) (n : ℕ) (long : n < length bytes) (enough : longes
   sizes_alike : has_sizes front ≡ has_sizes bytes
   sizes_alike =
       let e = front_length in
-      simp (le-leb 9 (length front) (omega arith), le-leb 9 (length bytes) (omega arith), warps_alike, lines_alike)
+      simp (
+        le-leb 9 (length front) (omega arith),
+        le-leb 9 (length bytes)
+            (omega arith),
+        warps_alike,
+        lines_alike,
+      )
 
   -- Where the sizes are sound, the header and every row lie in the front.
   module _ (s : has_sizes bytes ≡ true) where
@@ -110,7 +119,8 @@ module _ (bytes : List ℕ) (n : ℕ) (long : n < length bytes) (enough : longes
 
   -- The checks pass or fail alike, one after the other.
   faults_alike :
-      (m v b s : Bool) → has_marks bytes ≡ m → eqb (two_bytes bytes 3) 1 ≡ v → is_some (book_named (get_or bytes 5 0)) ≡ b
+      (m v b s : Bool) → has_marks bytes ≡ m → eqb (two_bytes bytes 3) 1 ≡ v
+      → is_some (book_named (get_or bytes 5 0)) ≡ b
       → has_sizes bytes ≡ s → header_fault front ≡ header_fault bytes
   faults_alike false v b s p q r t = wrong_mark front (marks_alike ∙ p) ∙ sym (wrong_mark bytes p)
   faults_alike true false b s p q r t =
@@ -144,8 +154,14 @@ module _ (bytes : List ℕ) (n : ℕ) (long : n < length bytes) (enough : longes
 
 itself_alike : (bytes : List ℕ) → ReadAlike bytes bytes
 itself_alike bytes =
-    record
-    { same_fault = refl; same_book = refl; same_stamps = λ _. refl; same_values = λ _. refl; same_rows = λ _. refl }
+    record {
+      same_fault = refl;
+      same_book = refl;
+      same_stamps = λ _. refl;
+      same_values = λ _.
+          refl;
+      same_rows = λ _. refl;
+    }
 
 pub front_suffices : (n : ℕ) → longest_file < n → Suffices n
 front_suffices n h bytes =

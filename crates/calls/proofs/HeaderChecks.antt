@@ -26,17 +26,20 @@ module _ (bytes : List ℕ) where
 
     module _ (v : eqb (two_bytes bytes 3) 1 ≡ true) where
       pub wrong_book :
-          is_some (book_named (get_or bytes 5 0)) ≡ false → header_fault bytes ≡ Some (fault_in_file BadLetter 5)
+          is_some (book_named (get_or bytes 5 0)) ≡ false
+          → header_fault bytes ≡ Some (fault_in_file BadLetter 5)
       wrong_book e = simp (m, v, e)
 
       module _ (b : is_some (book_named (get_or bytes 5 0)) ≡ true) where
-        pub wrong_size : has_sizes bytes ≡ false → header_fault bytes ≡ Some (fault_in_file BadSize 6)
+        pub wrong_size : has_sizes bytes ≡ false
+            → header_fault bytes ≡ Some (fault_in_file BadSize 6)
         wrong_size e = simp (m, v, b, e)
 
         module _ (s : has_sizes bytes ≡ true) where
           pub long_enough :
               leb (rows_place bytes) (length bytes) ≡ true
-              → header_fault bytes ≡ option_map (fault_in_file BadStamp) (late_stamp_place 9 (stamps bytes))
+              → header_fault bytes ≡ option_map (fault_in_file BadStamp)
+              (late_stamp_place 9 (stamps bytes))
           long_enough e = simp (m, v, b, s, e) (only_found _)
 
   -- A sound header has sound sizes.
@@ -44,7 +47,8 @@ module _ (bytes : List ℕ) where
   sound_size sound = go _ _ _ _ refl refl refl refl
     where
       go :
-          (m v b s : Bool) → has_marks bytes ≡ m → eqb (two_bytes bytes 3) 1 ≡ v → is_some (book_named (get_or bytes 5 0)) ≡ b
+          (m v b s : Bool) → has_marks bytes ≡ m → eqb (two_bytes bytes 3) 1 ≡ v
+          → is_some (book_named (get_or bytes 5 0)) ≡ b
           → has_sizes bytes ≡ s → has_sizes bytes ≡ true
       go false v b s p q r t = let e = wrong_mark p in cc
       go true false b s p q r t = let e = wrong_version p q in cc

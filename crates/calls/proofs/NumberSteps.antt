@@ -18,23 +18,27 @@ numbers_length bytes place zero = refl
 numbers_length bytes place (suc n) = ap suc (numbers_length bytes (place + 4) n)
 
 pub numbers_by_fours :
-    (n : ℕ) (bytes : List ℕ) → map (λ four. four_bytes four 0) (first_chunks 4 n bytes) ≡ numbers bytes 0 n
+    (n : ℕ) (bytes : List ℕ)
+    → map (λ four. four_bytes four 0) (first_chunks 4 n bytes) ≡ numbers bytes 0 n
 numbers_by_fours zero bytes = refl
 numbers_by_fours (suc n) bytes =
     ap₂ ◌∷◌ (same_four 0 0 4 (same_in_take bytes 4 0 4 (omega arith)) (omega arith))
-    (numbers_by_fours n (drop 4 bytes) ∙ same_numbers n 0 4 (4 * n) (same_in_rest bytes 4 (4 * n)) (omega arith))
+    (numbers_by_fours n (drop 4 bytes) ∙ same_numbers n 0 4 (4 * n) (same_in_rest bytes 4 (4 * n))
+    (omega arith))
 
 -- The numbers of the part of a file where so many stand are the file's.
 pub numbers_of_part :
     (bytes : List ℕ) (start stop count : ℕ) → stop ≡ start + 4 * count → stop ≤ length bytes
-    → numbers (take (stop - start) (drop start bytes)) 0 (length (take (stop - start) (drop start bytes)) / 4)
+    → numbers (take (stop - start) (drop start bytes)) 0
+    (length (take (stop - start) (drop start bytes)) / 4)
     ≡ numbers bytes start count
 numbers_of_part bytes start stop count e h =
     let long : length (take (stop - start) (drop start bytes)) ≡ 4 * count =
     length-take (stop - start) (drop start bytes) ∙ omega (arith, length-drop start bytes) in
     let many : length (take (stop - start) (drop start bytes)) / 4 ≡ count = omega arith in
     ap (numbers (take (stop - start) (drop start bytes)) 0) many
-    ∙ same_numbers count 0 start (4 * count) (same_in_part bytes start (stop - start) (4 * count) (omega arith))
+    ∙ same_numbers count 0 start (4 * count)
+    (same_in_part bytes start (stop - start) (4 * count) (omega arith))
     (omega arith)
 
 late_from :
@@ -59,4 +63,5 @@ pub late_by_number :
 late_by_number place stamps =
     let e : place ≡ place + 4 * 0 = omega arith in
     ap (λ p. late_stamp_place p stamps) e ∙ late_from place 0 stamps
-    ∙ ap (option_map (λ k. place + 4 * k)) (sym (position_from-zero (λ stamp. nat_lt last_stamp stamp) stamps))
+    ∙ ap (option_map (λ k. place + 4 * k))
+    (sym (position_from-zero (λ stamp. nat_lt last_stamp stamp) stamps))

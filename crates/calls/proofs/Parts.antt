@@ -19,7 +19,8 @@ use Rattle.calls.proofs.NumberSteps.{numbers_of_part, numbers_length, late_by_nu
 -- The numbers that are read of the part of a file between two places.
 abbrev pub part_numbers : List ℕ → ℕ → ℕ → List ℕ
 part_numbers bytes start stop =
-    numbers (take (stop - start) (drop start bytes)) 0 (length (take (stop - start) (drop start bytes)) / 4)
+    numbers (take (stop - start) (drop start bytes)) 0
+    (length (take (stop - start) (drop start bytes)) / 4)
 
 module _ (bytes : List ℕ) (shape : Shape) (shaped : HasShape bytes shape) where
   abbrev values_at : ℕ
@@ -46,12 +47,14 @@ module _ (bytes : List ℕ) (shape : Shape) (shaped : HasShape bytes shape) wher
       stamps_are = these_stamps ∙ ap (numbers bytes 9) shaped.warps
 
       pub stamps_many : length items ≤ 32
-      stamps_many = let f = few_warps in omega (arith, ap length these_stamps ∙ numbers_length bytes 9 shape.warps)
+      stamps_many = let f =
+          few_warps in omega (arith, ap length these_stamps ∙ numbers_length bytes 9 shape.warps)
 
       -- The last check of the header, where all before it pass.
       pub stamps_checked :
           (late : Option ℕ) → late ≡ position (λ stamp. nat_lt last_stamp stamp) items
-          → header_fault bytes ≡ option_map (fault_in_file BadStamp) (option_map (λ k. 9 + 4 * k) late)
+          → header_fault bytes ≡ option_map (fault_in_file BadStamp)
+          (option_map (λ k. 9 + 4 * k) late)
       stamps_checked late e =
           long_enough bytes shaped.marks shaped.version (ap is_some shaped.book) shaped.size
           (le-leb (rows_place bytes) (length bytes) (rw (← place_is) long))
@@ -60,7 +63,8 @@ module _ (bytes : List ℕ) (shape : Shape) (shaped : HasShape bytes shape) wher
           ∙ ap (option_map (λ k. 9 + 4 * k))
           (ap (position (λ stamp. nat_lt last_stamp stamp)) (sym stamps_are) ∙ sym e))
 
-    module _ (read : items ≡ part_numbers bytes (9 + 4 * shape.warps) (9 + 4 * shape.warps + 4 * shape.lines)) where
+    module _ (read : items ≡ part_numbers bytes (9 + 4 * shape.warps)
+        (9 + 4 * shape.warps + 4 * shape.lines)) where
       these_values : items ≡ numbers bytes (9 + 4 * shape.warps) shape.lines
       these_values = read ∙ numbers_of_part bytes values_at rows_at shape.lines refl long
 
@@ -69,4 +73,5 @@ module _ (bytes : List ℕ) (shape : Shape) (shaped : HasShape bytes shape) wher
 
       pub values_many : length items ≤ 4096
       values_many =
-          let f = few_lines in omega (arith, ap length these_values ∙ numbers_length bytes values_at shape.lines)
+          let f = few_lines
+          in omega (arith, ap length these_values ∙ numbers_length bytes values_at shape.lines)

@@ -18,7 +18,8 @@ module _ (bytes rest : List ℕ) (follows : (k : ℕ) → get_or rest k 0 ≡ ge
 
   pub lines_at :
       (x : ℕ)
-      → x ≡ get_or (take (length rest - 1) (drop 1 rest)) 1 0 * 256 + get_or (take (length rest - 1) (drop 1 rest)) 2 0
+      → x ≡ get_or (take (length rest - 1) (drop 1 rest)) 1 0 * 256 + get_or
+      (take (length rest - 1) (drop 1 rest)) 2 0
       → x ≡ lines bytes
   lines_at x e =
       e ∙ ap₂ (λ a b. a * 256 + b) (tail_at rest 1 1 ∙ follows 2) (tail_at rest 1 2 ∙ follows 3)

@@ -22,7 +22,8 @@ two_bytes bytes place = slice_index bytes place * 256 + slice_index bytes (place
 
 abbrev pub four_bytes : List ℕ → ℕ → ℕ
 four_bytes bytes place =
-    slice_index bytes place * 16777216 + slice_index bytes (place + 1) * 65536 + slice_index bytes (place + 2) * 256
+    slice_index bytes place * 16777216 + slice_index bytes (place + 1) * 65536 + slice_index bytes
+    (place + 2) * 256
     + slice_index bytes (place + 3)
 
 -- A count of 32-bit numbers from a place on.
@@ -38,7 +39,8 @@ book_letter Condensed = 67
 -- The book that a letter names, if any.
 abbrev pub book_named : ℕ → Option BookKind
 book_named letter =
-    cond (letter == book_letter Exact) (Some Exact) (cond (letter == book_letter Condensed) (Some Condensed) None)
+    cond (letter == book_letter Exact) (Some Exact)
+    (cond (letter == book_letter Condensed) (Some Condensed) None)
 
 -- A book's letter names that book.
 abbrev pub LettersNameBooks : Type 0
@@ -46,7 +48,8 @@ LettersNameBooks = (kind : BookKind) → book_named (book_letter kind) ≡ Some 
 
 -- The book that a letter names has that letter.
 abbrev pub BooksKeepLetters : Type 0
-BooksKeepLetters = (letter : ℕ) (kind : BookKind) → book_named letter ≡ Some kind → book_letter kind ≡ letter
+BooksKeepLetters = (letter : ℕ) (kind : BookKind) → book_named letter ≡ Some kind
+    → book_letter kind ≡ letter
 
 -- The header: the letters G, T and M, a 16-bit version, a book's letter, a byte of warps, 16 bits
 -- of lines, a first stamp for each warp and a value for each line. Rows follow to the end of the
@@ -71,13 +74,16 @@ module _ (bytes : List ℕ) where
   has_marks = slice_index bytes 0 == 71 && (slice_index bytes 1 == 84 && slice_index bytes 2 == 77)
 
   abbrev pub has_sizes : Bool
-  has_sizes = nat_le 9 (length bytes) && ((nat_lt 0 warps && nat_le warps warp_limit) && (nat_lt 0 lines && nat_le lines line_limit))
+  has_sizes = nat_le 9 (length bytes)
+      && ((nat_lt 0 warps && nat_le warps warp_limit)
+      && (nat_lt 0 lines && nat_le lines line_limit))
 
 -- The place of the first stamp that is past the end of the clock, where the stamps begin at a
 -- place.
 abbrev pub late_stamp_place : ℕ → List ℕ → Option ℕ
 late_stamp_place place [] = None
-late_stamp_place place (stamp ∷ rest) = cond (nat_le stamp last_stamp) (late_stamp_place (place + 4) rest) (Some place)
+late_stamp_place place (stamp ∷ rest) =
+    cond (nat_le stamp last_stamp) (late_stamp_place (place + 4) rest) (Some place)
 
 -- The fault that a check finds: none where it passes.
 abbrev pub file_fault_unless : Bool → Refusal → ℕ → Option Fault
@@ -107,7 +113,8 @@ abbrev pub row_call : List ℕ → ℕ → Option Call
 row_call bytes place =
     option_map
     (λ op. record { warp = slice_index bytes (place + 1); op = op })
-    (op_named (slice_index bytes place) (two_bytes bytes (place + 2)) (four_bytes bytes (place + 4)))
+    (op_named (slice_index bytes place) (two_bytes bytes (place + 2))
+    (four_bytes bytes (place + 4)))
 
 -- The call in the bytes of a whole row. A fault names the place where the row begins.
 abbrev pub row_result : List ℕ → ℕ → Result Call Fault
@@ -136,8 +143,10 @@ row_before (Err found) rest = empty_rows (Some found)
 
 -- The rows from a place to the end of the file, 8 bytes each, with a limit to their number.
 unfoldable pub rows_from : List ℕ → ℕ → ℕ → Rows
-rows_from bytes zero place = empty_rows (file_fault_unless (nat_le (length bytes) place) TooManyRows place)
-rows_from bytes (suc more) place = row_before (row_at bytes place) (rows_from bytes more (place + 8))
+rows_from bytes zero place =
+    empty_rows (file_fault_unless (nat_le (length bytes) place) TooManyRows place)
+rows_from bytes (suc more) place =
+    row_before (row_at bytes place) (rows_from bytes more (place + 8))
 
 -- The maximum number of rows.
 abbrev pub row_limit : ℕ

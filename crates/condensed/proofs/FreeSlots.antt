@@ -38,7 +38,8 @@ best_there place best (slot ∷ slots) =
 
 pub free_slot_is_chosen : (slots : List Slot) (inside : Option ℕ)
     → (is_some inside || any_free slots) ≡ is_some (slot_or_choice slots inside)
-free_slot_is_chosen slots None = sym (mapped (λ best. best.0) (best_from 0 None (map slot_key slots)) ∙ best_there 0 None slots)
+free_slot_is_chosen slots None =
+    sym (mapped (λ best. best.0) (best_from 0 None (map slot_key slots)) ∙ best_there 0 None slots)
 free_slot_is_chosen slots (Some place) = refl
 
 -- The same of a line that is in no slot.

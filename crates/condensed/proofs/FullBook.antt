@@ -28,7 +28,8 @@ among_fifteen p i lt inside apart =
     (λ up. (
       i - 1,
       omega arith,
-      cond-false (nat_lt (i - 1) p) (i - 1) (i - 1 + 1) (le-ltb (i - 1) p (omega arith)) ∙ omega arith,
+      cond-false (nat_lt (i - 1) p) (i - 1) (i - 1 + 1) (le-ltb (i - 1) p (omega arith))
+          ∙ omega arith,
     ))
     (cases_lt i p)
 
@@ -41,7 +42,8 @@ module _ (s : Condensed) (sound : IsSound s) where
       (n : ℕ) (o other : Option ℕ) → IsSlotOf s.slots n o → other ≡ choice_of (map slot_key s.slots)
       → entry_stores (entry_from s.slots s.filter n o) ≡ 0 → is_some (option_or o other) ≡ true
       → (p : ℕ) × (p < 16) × (stores_in p ≡ 0)
-  free_place n (Some i) other sp is free has = let sixteen = sound.sixteen in (i, omega (arith, sp.0), free)
+  free_place n (Some i) other sp is free has = let sixteen =
+      sound.sixteen in (i, omega (arith, sp.0), free)
   free_place n None (Some p) sp is free has =
       let sixteen = sound.sixteen in
       let law = chosen_slot_is_free s.slots p (sym is) in
@@ -50,7 +52,8 @@ module _ (s : Condensed) (sound : IsSound s) where
 
   fifteen : (p : ℕ) → p < 16 → stores_in p ≡ 0 → reserved_count condensed s ≤ 15
   fifteen p lt free =
-      placed_lines 15 line_limit (λ j. line_at s sound (past_one p j)) (is_reserved condensed s) (λ n inside held.
+      placed_lines 15 line_limit (λ j. line_at s sound (past_one p j)) (is_reserved condensed s)
+      (λ n inside held.
       let place = reserved_line_has_slot s sound n inside held in
       let j = among_fifteen p place.0 lt place.1 (λ e. held_and_free (stores_in p)
       (subst (λ i. 0 < stores_in i) e place.3) free) in
@@ -68,6 +71,8 @@ no_slot_for_a_seventeenth s sound sixteen n free =
     let parts = and_parts (nat_lt n line_limit) (is_some (slot_for s.slots n)) has in
     let lt : n < line_limit = ltb-true n line_limit parts.0 in
     let none = eqb-true (entry_stores (line_entry s n)) 0 (not-false _ free) in
-    let place = free_place s sound n (slot_of s.slots n) (choice_of (map slot_key s.slots)) (slot_of_law s.slots n) refl
+    let place = free_place s sound n (slot_of s.slots n) (choice_of (map slot_key s.slots))
+    (slot_of_law s.slots n) refl
     (ap entry_stores (sym (line_entry-in_range s n lt)) ∙ none) parts.1 in
-    sixteen_or_fifteen (reserved_count condensed s) sixteen (fifteen s sound place.0 place.1 place.2))
+    sixteen_or_fifteen (reserved_count condensed s) sixteen
+    (fifteen s sound place.0 place.1 place.2))

@@ -17,7 +17,8 @@ use Rattle.condensed.specs.Lemmas.Slots.{slot_of-none}
 use Rattle.condensed.specs.Lemmas.CondensedKeeps.{new_stamps}
 use Rattle.condensed.specs.Lemmas.SoundLines.{line_entry-in_range}
 
-new_filter_stamps : (four : List ℕ) → filter_stamps (replicate 4 (replicate 64 no_stamps)) four ≡ no_stamps
+new_filter_stamps : (four : List ℕ)
+    → filter_stamps (replicate 4 (replicate 64 no_stamps)) four ≡ no_stamps
 unfolding filter_stamps
 new_filter_stamps four =
     all_four _ _ _ _ (new_stamps 4 0 (get_or four 0 0)) (new_stamps 4 1 (get_or four 1 0))
@@ -27,12 +28,15 @@ new_filter_stamps four =
         (a b c d : Stamps) → a ≡ no_stamps → b ≡ no_stamps → c ≡ no_stamps → d ≡ no_stamps
         → earlier_stamps (earlier_stamps a b) (earlier_stamps c d) ≡ no_stamps
     all_four a b c d p q r s =
-        ap (λ x. earlier_stamps (earlier_stamps x b) (earlier_stamps c d)) p ∙ ap (λ x. earlier_stamps (earlier_stamps no_stamps x) (earlier_stamps c d)) q
-        ∙ ap (λ x. earlier_stamps no_stamps (earlier_stamps x d)) r ∙ ap (λ x. earlier_stamps no_stamps (earlier_stamps no_stamps x)) s
+        ap (λ x. earlier_stamps (earlier_stamps x b) (earlier_stamps c d)) p
+        ∙ ap (λ x. earlier_stamps (earlier_stamps no_stamps x) (earlier_stamps c d)) q
+        ∙ ap (λ x. earlier_stamps no_stamps (earlier_stamps x d)) r
+        ∙ ap (λ x. earlier_stamps no_stamps (earlier_stamps no_stamps x)) s
 
 module _ (n : ℕ) (lt : n < line_limit) where
   nowhere : slot_of (replicate 16 empty_slot) n ≡ None
-  nowhere = slot_of-none (replicate 16 empty_slot) n (λ k _. ap (λ x. slot_holds x n) (slice_index_or-replicate 16 k empty_slot))
+  nowhere = slot_of-none (replicate 16 empty_slot) n
+      (λ k _. ap (λ x. slot_holds x n) (slice_index_or-replicate 16 k empty_slot))
 
   line_entry-condensed_new : line_entry condensed_new n ≡ untouched_entry
   line_entry-condensed_new =

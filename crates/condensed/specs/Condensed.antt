@@ -65,7 +65,8 @@ slot_of slots line = position (λ slot. slot_holds slot line) slots
 -- reserved slot is not allowed.
 abbrev pub occupant_key : Option Occupant → Option ℕ
 occupant_key None = Some 0
-occupant_key (Some there) = cond (entry_stores there.entry == 0) (Some there.entry.stamps.write) None
+occupant_key (Some there) =
+    cond (entry_stores there.entry == 0) (Some there.entry.stamps.write) None
 
 abbrev pub slot_key : Slot → Option ℕ
 slot_key slot = occupant_key slot.occupant
@@ -95,13 +96,15 @@ filter_raised_for filter stamps line (Some evicted) =
     cond (evicted == line) filter (filter_raised_to filter (indices_of evicted) stamps)
 
 abbrev pub filter_after_eviction : List (List Stamps) → Slot → ℕ → List (List Stamps)
-filter_after_eviction filter slot line = filter_raised_for filter (slot_entry slot).stamps line (slot_line slot)
+filter_after_eviction filter slot line =
+    filter_raised_for filter (slot_entry slot).stamps line (slot_line slot)
 
 module _ (s : Condensed) where
   -- The entry of a line, by the slot that it is in. A line past the last is as one that no call has
   -- named.
   abbrev pub entry_by_slot : ℕ → Option ℕ → Entry
-  entry_by_slot line inside = cond (nat_lt line line_limit) (entry_from s.slots s.filter line inside) untouched_entry
+  entry_by_slot line inside =
+      cond (nat_lt line line_limit) (entry_from s.slots s.filter line inside) untouched_entry
 
   abbrev pub line_entry : ℕ → Entry
   line_entry line = entry_by_slot line (slot_of s.slots line)
@@ -143,7 +146,8 @@ module _ (s : Condensed) (line : ℕ) where
   abbrev pub after_reserve : Time → Option ℕ → Condensed
   after_reserve t None = s
   after_reserve t (Some index) =
-      with_slot (after_eviction s line index) line index (entry_after_reserve (line_entry s line) t) (t.0 + 1)
+      with_slot (after_eviction s line index) line index (entry_after_reserve (line_entry s line) t)
+      (t.0 + 1)
 
   -- Other calls change the entry of the line in its slot, and nothing else.
   abbrev pub after_change : (Entry → Entry) → Option ℕ → Condensed
@@ -163,11 +167,13 @@ HasSixteenSlots slots = length slots ≡ 16
 abbrev pub HoldDistinctLines : List Slot → Type 0
 HoldDistinctLines slots =
     (i j : ℕ)
-    → same_line (slot_line (get_or slots i empty_slot)) (slot_line (get_or slots j empty_slot)) ≡ true
+    → same_line (slot_line (get_or slots i empty_slot)) (slot_line (get_or slots j empty_slot))
+    ≡ true
     → i ≡ j
 
 abbrev pub HoldNumberedLines : List Slot → Type 0
-HoldNumberedLines slots = (i n : ℕ) → slot_holds (slice_index_or slots i empty_slot) n ≡ true → n < line_limit
+HoldNumberedLines slots = (i n : ℕ) → slot_holds (slice_index_or slots i empty_slot) n ≡ true
+    → n < line_limit
 
 -- no stamp in a slot or in the filter is later than the latest stamp;
 abbrev pub SlotsWritten : List Slot → ℕ → Type 0
@@ -221,4 +227,10 @@ condensed =
 
 -- A new book: its slots are empty, and no entry of the filter has a stamp.
 abbrev pub condensed_new : Condensed
-condensed_new = record { slots = replicate 16 empty_slot; filter = replicate 4 (replicate 64 no_stamps); latest = 0 }
+condensed_new =
+    record {
+      slots = replicate 16 empty_slot;
+      filter = replicate 4
+          (replicate 64 no_stamps);
+      latest = 0;
+    }

@@ -9,7 +9,8 @@ use Rattle.book.specs.declared.entry.Stamps.{Stamps}
 -- number, lowest first.
 unfoldable pub index_by : List ℕ → ℕ → ℕ
 index_by [] line = 0
-index_by (number ∷ numbers) line = bit_xor (cond (line % 2 == 1) number 0) (index_by numbers (line / 2))
+index_by (number ∷ numbers) line =
+    bit_xor (cond (line % 2 == 1) number 0) (index_by numbers (line / 2))
 
 -- Whether all numbers are indices of a way.
 abbrev pub all_below_64 : List ℕ → Bool
@@ -30,7 +31,8 @@ way_3 = 63 ∷ 31 ∷ 47 ∷ 55 ∷ 59 ∷ 61 ∷ 62 ∷ 1 ∷ 9 ∷ 18 ∷ 36 �
 
 -- A line's four indices, one in each way.
 abbrev pub indices_of : ℕ → List ℕ
-indices_of line = index_by way_0 line ∷ index_by way_1 line ∷ index_by way_2 line ∷ index_by way_3 line ∷ []
+indices_of line = index_by way_0 line ∷ index_by way_1 line ∷ index_by way_2 line
+    ∷ index_by way_3 line ∷ []
 
 -- Four indices, each within its way.
 pub record AreInside (four : List ℕ) : Type 0 where
@@ -54,15 +56,18 @@ module _ (filter : List (List Stamps)) where
   -- One entry is raised to stamps if it is earlier.
   abbrev pub raised_at : ℕ → ℕ → Stamps → List (List Stamps)
   raised_at way index stamps =
-      slice_set filter way (slice_set (way_at way) index (later_stamps (stamps_at way index) stamps))
+      slice_set filter way
+      (slice_set (way_at way) index (later_stamps (stamps_at way index) stamps))
 
 -- The stamps of a line are the smallest write stamp and the earliest read mark of its four entries.
 -- The two may come from different entries.
 unfoldable pub filter_stamps : List (List Stamps) → List ℕ → Stamps
 filter_stamps filter four =
     earlier_stamps
-    (earlier_stamps (stamps_at filter 0 (slice_index four 0)) (stamps_at filter 1 (slice_index four 1)))
-    (earlier_stamps (stamps_at filter 2 (slice_index four 2)) (stamps_at filter 3 (slice_index four 3)))
+    (earlier_stamps (stamps_at filter 0 (slice_index four 0))
+    (stamps_at filter 1 (slice_index four 1)))
+    (earlier_stamps (stamps_at filter 2 (slice_index four 2))
+    (stamps_at filter 3 (slice_index four 3)))
 
 -- All four entries are raised.
 unfoldable pub filter_raised_to : List (List Stamps) → List ℕ → Stamps → List (List Stamps)

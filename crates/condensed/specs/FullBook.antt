@@ -6,5 +6,6 @@ use Rattle.condensed.specs.Condensed.{Condensed, IsSound, condensed}
 -- That holds in every sound state.
 abbrev pub NoSlotForASeventeenth : Type 0
 NoSlotForASeventeenth =
-    (s : Condensed) → IsSound s → reserved_count condensed s ≡ 16 → (n : ℕ) → is_reserved condensed s n ≡ false
+    (s : Condensed) → IsSound s → reserved_count condensed s ≡ 16 → (n : ℕ)
+    → is_reserved condensed s n ≡ false
     → condensed.has_slot s n ≡ false

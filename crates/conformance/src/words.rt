@@ -1,7 +1,7 @@
 //! The words of the program: every cause, every refusal, and explanations in which every kind of
 //! note occurs.
-use explain::answer_words::{cause_words, refusal_words};
 use explain::annotate;
+use explain::answer_words::{cause_words, refusal_words};
 use harriersofa::{Cause, Refusal};
 use std::fs;
 

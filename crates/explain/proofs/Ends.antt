@@ -25,12 +25,15 @@ one_row_more lines line text all new h g =
     rw add-one (more_rows (mem_rows lines line) (line_row line (lines line)) text all new h g)
 
 -- What is wrong with a file, and a line's value.
-pub adds_bad_row : (fault : Fault) (old new : List ℕ) → AddsRow (bad_row fault) old new → AddsRows (bad_row fault) old new
+pub adds_bad_row : (fault : Fault) (old new : List ℕ) → AddsRow (bad_row fault) old new
+    → AddsRows (bad_row fault) old new
 adds_bad_row fault old new h = row_with_note (bad_row fault) old new (bad_row_kept fault) h
 
 pub adds_mem_row :
-    (line value : ℕ) (old new : List ℕ) → AddsRow (mem_row line value) old new → AddsRows (mem_row line value) old new
-adds_mem_row line value old new h = row_with_note (mem_row line value) old new (mem_row_kept line value) h
+    (line value : ℕ) (old new : List ℕ) → AddsRow (mem_row line value) old new
+    → AddsRows (mem_row line value) old new
+adds_mem_row line value old new h =
+    row_with_note (mem_row line value) old new (mem_row_kept line value) h
 
 module _ {A E : Type 0} where
   -- A fact that follows, of a text that is there.
@@ -43,19 +46,23 @@ module _ {A E : Type 0} where
   -- The line that a memory has.
   pub adds_line_row :
       (r : Result (String A) E) (line value : ℕ) (found : Option ℕ) (fault : Fault) (old : List ℕ)
-      → Ok value ≡ ok_or found fault → IfOk r (λ t. AddsRow (mem_row line value) old (string_bytes t))
+      → Ok value ≡ ok_or found fault
+      → IfOk r (λ t. AddsRow (mem_row line value) old (string_bytes t))
       → IfOk r (λ t. AddsRows (line_row line found) old (string_bytes t))
   adds_line_row r line value None fault old e h = cc
   adds_line_row r line value (Some found) fault old e h =
       let same : value ≡ found = cc in
       IfOk-map r (AddsRow (mem_row line value) old) (AddsRows (mem_row line found) old)
-      (λ new g. subst (λ v. AddsRows (mem_row line v) old new) same (adds_mem_row line value old new g)) h
+      (λ new g. subst (λ v. AddsRows (mem_row line v) old new) same
+      (adds_mem_row line value old new g)) h
 
   -- The end of a damaged file.
   pub adds_end_rows :
-      (r : Result (String A) E) (found : Option Fault) (fault : Fault) (lines : Lines) (limit : ℕ) (old : List ℕ)
+      (r : Result (String A) E) (found : Option Fault) (fault : Fault) (lines : Lines) (limit : ℕ)
+      (old : List ℕ)
       → found ≡ Some fault → IfOk r (λ t. AddsRow (bad_row fault) old (string_bytes t))
       → IfOk r (λ t. AddsRows (end_rows found lines limit) old (string_bytes t))
   adds_end_rows r found fault lines limit old is h =
       IfOk-map r (AddsRow (bad_row fault) old) (AddsRows (end_rows found lines limit) old)
-      (λ new g. subst (λ f. AddsRows (end_rows f lines limit) old new) (sym is) (adds_bad_row fault old new g)) h
+      (λ new g. subst (λ f. AddsRows (end_rows f lines limit) old new) (sym is)
+      (adds_bad_row fault old new g)) h

@@ -19,14 +19,16 @@ settled_by request outcome = record { warp = request.warp; line = request.line; 
 module _ {k : Kind} where
   -- A request with its outcome, if it is settled.
   abbrev pub settled_of : Machine k → Request → Option Settled
-  settled_of m request = option_map (settled_by request) (outcome_of (warp_row_of m request.warp).phase)
+  settled_of m request =
+      option_map (settled_by request) (outcome_of (warp_row_of m request.warp).phase)
 
   abbrev pub all_settled : Machine k → List Request → List Settled
   all_settled m waited = filter_map (settled_of m) waited
 
   -- A waiting request, with the warp that has its line.
   abbrev pub wait_of : Machine k → Request → Wait
-  wait_of m request = record { warp = request.warp; line = request.line; owner = k.owner m.book request.line }
+  wait_of m request =
+      record { warp = request.warp; line = request.line; owner = k.owner m.book request.line }
 
   abbrev pub all_waits : Machine k → List Wait
   all_waits m = map (wait_of m) (all_waiting m)

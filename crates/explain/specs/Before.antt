@@ -56,7 +56,8 @@ module _ {k : Kind} where
   line_met m call = option_map (line_facts k m.book) (line_for m call.warp call.op)
 
   -- The facts are what a call finds in the machine.
-  pub record IsBefore (policy : Policy k) (m : Machine k) (call : Call) (facts : Before) : Type 0 where
+  pub record IsBefore (policy : Policy k) (m : Machine k) (call : Call) (facts : Before) :
+      Type 0 where
     pub stamp : facts.stamp ≡ (warp_row_of m call.warp).stamp
     pub verdict : facts.verdict ≡ verdict_met policy m call
     pub line : facts.line ≡ line_met m call

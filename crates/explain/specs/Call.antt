@@ -12,7 +12,8 @@ use Rattle.explain.specs.Waiting.{all_waiting}
 
 -- The facts of a call: what it finds is read from the machine before it, what it leaves from the
 -- machine after it.
-pub record AreFacts {k : Kind} (policy : Policy k) (m : Machine k) (made : Call) (facts : CallFacts) : Type 0 where
+pub record AreFacts {k : Kind} (policy : Policy k) (m : Machine k) (made : Call)
+    (facts : CallFacts) : Type 0 where
   pub call : facts.call ≡ made
   pub reply : facts.reply ≡ (step policy m made).answer
   pub before : IsBefore policy m made facts.before

@@ -8,12 +8,14 @@ pub record ByExample : Type 0 where
   pub nothing : without_notes [] ≡ []
   pub rows : without_notes (codes "1 B 0 ok\nmem 0 7\n") ≡ codes "1 B 0 ok\nmem 0 7\n"
   pub empty_lines : without_notes (codes "\n\n1 B 0 ok\n\n") ≡ codes "\n\n1 B 0 ok\n\n"
-  pub other_whitespace : without_notes (codes "\tmem 0 7\n\rmem 1 8 \n") ≡ codes "\tmem 0 7\n\rmem 1 8 \n"
+  pub other_whitespace :
+      without_notes (codes "\tmem 0 7\n\rmem 1 8 \n") ≡ codes "\tmem 0 7\n\rmem 1 8 \n"
   pub open_row : without_notes (codes "1 B 0 ok") ≡ codes "1 B 0 ok"
   -- A line that begins with a blank is left out with its line feed, also one of blanks alone.
   pub note : without_notes (codes "    it is done\n") ≡ []
   pub one_blank : without_notes (codes " it is done\n") ≡ []
-  pub blanks_alone : without_notes (codes "1 B 0 ok\n \n  \nmem 0 7\n") ≡ codes "1 B 0 ok\nmem 0 7\n"
+  pub blanks_alone :
+      without_notes (codes "1 B 0 ok\n \n  \nmem 0 7\n") ≡ codes "1 B 0 ok\nmem 0 7\n"
   pub open_note : without_notes (codes "1 B 0 ok\n    it is") ≡ codes "1 B 0 ok\n"
   -- Rows among notes.
   pub row_and_notes :

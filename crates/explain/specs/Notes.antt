@@ -55,7 +55,8 @@ lines_without_notes lines = filter (λ line. not (is_note line)) lines
 abbrev pub DropsNotes : Type 0
 DropsNotes =
     (lines : List (List ℕ)) (last : List ℕ) → All (LacksByte 10) lines → LacksByte 10 last
-    → without_notes (with_feeds lines ++ last) ≡ with_feeds (lines_without_notes lines) ++ cond (is_note last) [] last
+    → without_notes (with_feeds lines ++ last) ≡ with_feeds (lines_without_notes lines)
+    ++ cond (is_note last) [] last
 
 -- A line of a note: indented by four blanks, with its line feed. And the text of some such lines.
 abbrev pub indented_line : List ℕ → List ℕ

@@ -7,7 +7,8 @@ use Rattle.protocol.specs.declared.fault.Fault.{Fault}
 use Rattle.listing.specs.Listing.{call_rows}
 
 no_rows :
-    (place : ℕ) (calls : List Call) (answers : List (Result Answer Fault)) → (length calls ≡ 0) ⊎ (length answers ≡ 0)
+    (place : ℕ) (calls : List Call) (answers : List (Result Answer Fault))
+    → (length calls ≡ 0) ⊎ (length answers ≡ 0)
     → call_rows place calls answers ≡ []
 no_rows place [] answers h = refl
 no_rows place (call ∷ calls) [] h = refl
@@ -15,7 +16,8 @@ no_rows place (call ∷ calls) (answer ∷ answers) (inl e) = cc
 no_rows place (call ∷ calls) (answer ∷ answers) (inr e) = cc
 
 pub all_listed :
-    (place : ℕ) (calls : List Call) (answers : List (Result Answer Fault)) → (length calls ≡ 0) ⊎ (length answers ≡ 0)
+    (place : ℕ) (calls : List Call) (answers : List (Result Answer Fault))
+    → (length calls ≡ 0) ⊎ (length answers ≡ 0)
     → (all whole : List ℕ) → all ++ call_rows place calls answers ≡ whole → all ≡ whole
 all_listed place calls answers over all whole e =
     sym (append-nil all) ∙ ap (λ rows. all ++ rows) (sym (no_rows place calls answers over)) ∙ e

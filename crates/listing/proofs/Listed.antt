@@ -15,14 +15,16 @@ use Rattle.calls.specs.declared.file.CallsFile.{CallsFile}
 use Rattle.listing.specs.Listing.{run_text, book_text, calls_file_text}
 
 -- The listing of a run over some words, from a state of a book.
-abbrev pub words_text : (k : Kind) → k.State → List ℕ → List ℕ → List Call → Option Fault → ℕ → List ℕ
+abbrev pub words_text : (k : Kind) → k.State → List ℕ → List ℕ → List Call → Option Fault → ℕ
+    → List ℕ
 words_text k page stamps values calls found limit =
     run_text (run_of k (word_lines values) page stamps calls) calls found limit
 
 module _ (listing_in : List ℕ → List ℕ) where
   -- A text about equal parts has the same listing in it.
   pub listed_alike :
-      {A E : Type 0} (k : Kind) (r : Result (String A) E) (page new : k.State) (st st' va va' : List ℕ)
+      {A E : Type 0} (k : Kind) (r : Result (String A) E) (page new : k.State)
+      (st st' va va' : List ℕ)
       (ca ca' : List Call) (found : Option Fault) (limit : ℕ)
       → page ≡ new → st' ≡ st → va' ≡ va → ca' ≡ ca → limit ≡ length va
       → IfOk r (λ t. listing_in (string_bytes t) ≡ words_text k page st' va' ca' found limit)
@@ -30,7 +32,8 @@ module _ (listing_in : List ℕ → List ℕ) where
   listed_alike k (Ok t) page new st st' va va' ca ca' found limit p s v c n h = cc
   listed_alike k (Err e) page new st st' va va' ca ca' found limit p s v c n h = tt
 
-module _ (listing_in : List ℕ → List ℕ) {A E : Type 0} (r : Result (String A) E) (file : CallsFile) where
+module _ (listing_in : List ℕ → List ℕ) {A E : Type 0} (r : Result (String A) E)
+    (file : CallsFile) where
   abbrev stamps : List ℕ
   stamps = vec_items file.stamps
 
@@ -45,7 +48,9 @@ module _ (listing_in : List ℕ → List ℕ) {A E : Type 0} (r : Result (String
       → IfOk r (λ t. listing_in (string_bytes t) ≡ book_text kind stamps values calls file.fault)
       → IfOk r (λ t. listing_in (string_bytes t) ≡ calls_file_text file)
   listed_by kind is h =
-      subst (λ b. IfOk r (λ t. listing_in (string_bytes t) ≡ book_text b stamps values calls file.fault)) (sym is) h
+      subst (λ b. IfOk r
+      (λ t. listing_in (string_bytes t) ≡ book_text b stamps values calls file.fault))
+      (sym is) h
 
   pub exact_listed :
       file.book ≡ Exact

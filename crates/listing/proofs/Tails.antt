@@ -17,9 +17,11 @@ pub ascii_byte : (byte : ℕ) → byte < 128 → IsUtf8 (byte ∷ [])
 ascii_byte byte h = IsUtf8-from_ascii _ (IsAscii-cons byte [] h IsAscii-nil)
 
 pub row_added :
-    (added : Bool) (row old new : List ℕ) → ∥ IsUtf8 row ∥₁ → ∥ IsUtf8 old ∥₁ → new ≡ cond added (old ++ row) old
+    (added : Bool) (row old new : List ℕ) → ∥ IsUtf8 row ∥₁ → ∥ IsUtf8 old ∥₁
+    → new ≡ cond added (old ++ row) old
     → ∥ IsUtf8 new ∥₁
-row_added true row old new text kept e = ∥∥₁_map₂ kept text (λ o r. subst IsUtf8 (sym e) (IsUtf8-append old row o r))
+row_added true row old new text kept e =
+    ∥∥₁_map₂ kept text (λ o r. subst IsUtf8 (sym e) (IsUtf8-append old row o r))
 row_added false row old new text kept e = ∥∥₁_map kept (λ o. subst IsUtf8 (sym e) o)
 
 -- Behind the last byte nothing stands.

@@ -48,12 +48,14 @@ unfoldable pub book_text : BookKind → List ℕ → List ℕ → List Call → 
 book_text Exact stamps values calls found =
     run_text (run_of exact (word_lines values) exact_new stamps calls) calls found (length values)
 book_text Condensed stamps values calls found =
-    run_text (run_of condensed (word_lines values) condensed_new stamps calls) calls found (length values)
+    run_text (run_of condensed (word_lines values) condensed_new stamps calls) calls found
+    (length values)
 
 -- The listing of a file whose header is sound, from the content that was read.
 abbrev pub calls_file_text : CallsFile → List ℕ
 calls_file_text file =
-    book_text file.book (vec_items file.stamps) (vec_items file.values) (vec_items file.calls) file.fault
+    book_text file.book (vec_items file.stamps) (vec_items file.values)
+    (vec_items file.calls) file.fault
 
 -- The listing of a file whose header is sound, from its bytes. A sound header names a book.
 abbrev pub sound_text : Option BookKind → List ℕ → List ℕ

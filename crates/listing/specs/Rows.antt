@@ -9,7 +9,8 @@ use Rattle.protocol.specs.declared.fault.Fault.{Fault}
 
 -- A row of a word and two numbers.
 abbrev pub pair_row : List ℕ → ℕ → ℕ → List ℕ
-pair_row word first second = word ++ (decimal first ++ (codes " " ++ (decimal second ++ codes "\n")))
+pair_row word first second =
+    word ++ (decimal first ++ (codes " " ++ (decimal second ++ codes "\n")))
 
 -- A line's number and its value at the end of a run.
 abbrev pub mem_row : ℕ → ℕ → List ℕ
@@ -28,4 +29,5 @@ reply_row reply = reply_text reply ++ codes "\n"
 abbrev pub call_row : ℕ → Call → Result Answer Fault → List ℕ
 call_row place call reply =
     decimal place
-    ++ ((codes " " ++ (op_letter call.op ∷ codes " ")) ++ (decimal call.warp ++ (codes " " ++ reply_row reply)))
+    ++ ((codes " " ++ (op_letter call.op ∷ codes " "))
+    ++ (decimal call.warp ++ (codes " " ++ reply_row reply)))

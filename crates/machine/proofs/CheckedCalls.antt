@@ -18,14 +18,20 @@ passed_some None f e = cc
 passed_some (Some x) f e = cc
 
 module _ {k : Kind} (policy : Policy k) (m : Machine k) (call : Call) where
-  pub accepted_step_is : Ok tt ≡ as_result (fault_of m call) → accepted_step policy m call.warp call.op ≡ step policy m call
+  pub accepted_step_is : Ok tt ≡ as_result (fault_of m call)
+      → accepted_step policy m call.warp call.op ≡ step policy m call
   accepted_step_is e = ap (checked_step policy m call) (sym (passed_none (fault_of m call) e))
 
-  pub refused_machine : (f : Fault) → Err f ≡ as_result (fault_of m call) → m ≡ (step policy m call).machine
-  refused_machine f e = ap (λ o. (checked_step policy m call o).machine) (sym (passed_some (fault_of m call) f e))
+  pub refused_machine : (f : Fault) → Err f ≡ as_result (fault_of m call)
+      → m ≡ (step policy m call).machine
+  refused_machine f e =
+      ap (λ o. (checked_step policy m call o).machine) (sym (passed_some (fault_of m call) f e))
 
-  pub refused_answer : (f : Fault) → Err f ≡ as_result (fault_of m call) → Err f ≡ (step policy m call).answer
-  refused_answer f e = ap (λ o. (checked_step policy m call o).answer) (sym (passed_some (fault_of m call) f e))
+  pub refused_answer : (f : Fault) → Err f ≡ as_result (fault_of m call)
+      → Err f ≡ (step policy m call).answer
+  refused_answer f e =
+      ap (λ o. (checked_step policy m call o).answer) (sym (passed_some (fault_of m call) f e))
 
-pub refused_at : {X Y : Type 0} (r : Result X Y) (y : Y) (Q : Y → Type 0) → r ≡ Err y → Q y → IfErr r Q
+pub refused_at : {X Y : Type 0} (r : Result X Y) (y : Y) (Q : Y → Type 0) → r ≡ Err y → Q y
+    → IfErr r Q
 refused_at r y Q is q = subst (λ x. IfErr x Q) (sym is) q

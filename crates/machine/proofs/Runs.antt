@@ -1,7 +1,9 @@
 -- A run with one more call.
-use Rattle.std.proofs.Common.{◌≡◌, ℕ, suc, ◌+◌, ◌<◌, ◌≤◌, List, [], ◌∷◌, ◌++◌, length, get_or, set, take, drop, Result, sym, ap, ◌∙◌, arith}
+use Rattle.std.proofs.Common.{◌≡◌, ℕ, suc, ◌+◌, ◌<◌, ◌≤◌, List, [], ◌∷◌, ◌++◌, length, get_or, set}
+use Rattle.std.proofs.Common.{take, drop, Result, sym, ap, ◌∙◌, arith}
 use Rattle.std.proofs.Math.Seq.{drop-cons, set-append_seam}
-use Rattle.std.proofs.lemmas.List.{take_all, take_at, map_push, length-append, length-map, append_assoc, append-nil, length-take, drop_all}
+use Rattle.std.proofs.lemmas.List.{take_all, take_at, map_push, length-append, length-map}
+use Rattle.std.proofs.lemmas.List.{append_assoc, append-nil, length-take, drop_all}
 use Rattle.std.proofs.lemmas.List.Sums.{fold_more}
 use Rattle.std.specs.List.{fold}
 use Rattle.protocol.specs.declared.answer.Answer.{Answer}
@@ -27,17 +29,21 @@ set-append_drop xs ys i d a is low =
 module _ (places : List (Result Answer Fault)) where
   -- One more answer.
   places_after-answer :
-      (events : List Event) (e : Event) (i : ℕ) (answers next : List (Result Answer Fault)) (answer : Result Answer Fault)
-      → length events ≡ i → i < length places → answers ≡ places_after events places → next ≡ set answers i answer
+      (events : List Event) (e : Event) (i : ℕ) (answers next : List (Result Answer Fault))
+      (answer : Result Answer Fault)
+      → length events ≡ i → i < length places → answers ≡ places_after events places
+      → next ≡ set answers i answer
       → answer ≡ e.answer → next ≡ places_after (events ++ e ∷ []) places
   places_after-answer events e i answers next answer count low was set_it says =
       set_it
       ∙ ap (λ zs. set zs i answer) (was ∙ ap (λ n. answers_in events ++ drop n places) count)
-      ∙ set-append_drop (answers_in events) places i answer answer (length-map events (λ (x : Event). x.answer) ∙ count) low
+      ∙ set-append_drop (answers_in events) places i answer answer
+      (length-map events (λ (x : Event). x.answer) ∙ count) low
       ∙ ap (λ a. (answers_in events ++ a ∷ []) ++ drop (i + 1) places) says
       ∙ ap (λ zs. zs ++ drop (i + 1) places) (sym (map_push (λ (x : Event). x.answer) events e))
       ∙ ap (λ n. answers_in (events ++ e ∷ []) ++ drop n places)
-      (let z : length (events ++ e ∷ []) ≡ i + 1 = length-append events (e ∷ []) ∙ ap (λ n. n + 1) count in sym z)
+      (let z : length (events ++ e ∷ []) ≡ i + 1 = length-append events (e ∷ [])
+      ∙ ap (λ n. n + 1) count in sym z)
 
 module _ {k : Kind} (policy : Policy k) where
   -- A run has an event for each call.
@@ -50,18 +56,22 @@ module _ {k : Kind} (policy : Policy k) where
       let y = length-append r.events (event_of policy r.machine call ∷ []) in
       omega arith
 
-  pub length-events : (start : Machine k) (calls : List Call) → length (run policy start calls).events ≡ length calls
-  length-events start calls = length-events_from (record { machine = start; events = [] }) calls ∙ (omega arith)
+  pub length-events : (start : Machine k) (calls : List Call)
+      → length (run policy start calls).events ≡ length calls
+  length-events start calls = length-events_from (record { machine = start; events = [] }) calls
+      ∙ (omega arith)
 
   module _ (start : Machine k) (places : List (Result Answer Fault)) where
     -- A machine and the places for answers are those of a run of some calls.
-    pub record So (calls : List Call) (machine : Machine k) (answers : List (Result Answer Fault)) : Type 0 where
+    pub record So (calls : List Call) (machine : Machine k) (answers : List (Result Answer Fault)) :
+        Type 0 where
       pub machine_is : machine ≡ (run policy start calls).machine
       pub answers_are : answers ≡ places_after (run policy start calls).events places
 
     module _ (calls : List Call) where
       pub run_with_one_more :
-          (i : ℕ) (call d : Call) (machine after : Machine k) (answers next : List (Result Answer Fault))
+          (i : ℕ) (call d : Call) (machine after : Machine k)
+          (answers next : List (Result Answer Fault))
           (answer : Result Answer Fault) → i < length calls → length calls ≤ length places
           → call ≡ get_or calls i d → So (take i calls) machine answers
           → after ≡ (step policy machine call).machine → answer ≡ (step policy machine call).answer
@@ -69,18 +79,23 @@ module _ {k : Kind} (policy : Policy k) where
       unfolding run_with_call
       run_with_one_more i call d machine after answers next answer low fits is inv a b c =
           let before = run policy start (take i calls) in
-          let more : run policy start (take (i + 1) calls) ≡ run_with_call policy before (get_or calls i d) =
-          fold_more (run_with_call policy) (record { machine = start; events = [] }) calls i d low in
+          let more : run policy start (take (i + 1) calls) ≡ run_with_call policy before
+          (get_or calls i d) =
+          fold_more (run_with_call policy) (record { machine = start; events = [] }) calls i d low
+          in
           let at : run_with_call policy before call ≡ run policy start (take (i + 1) calls) =
           ap (run_with_call policy before) is ∙ sym more in
           let count : length before.events ≡ i =
           length-events start (take i calls) ∙ (let z = length-take i calls in omega arith) in
           record {
             machine_is =
-                a ∙ ap (λ m. (step policy m call).machine) inv.machine_is ∙ ap (λ (r : Run k). r.machine) at;
+                a ∙ ap (λ m. (step policy m call).machine) inv.machine_is
+                ∙ ap (λ (r : Run k). r.machine) at;
             answers_are =
-                places_after-answer places before.events (event_of policy before.machine call) i answers next answer count
-                (omega arith) inv.answers_are c (b ∙ ap (λ m. (step policy m call).answer) inv.machine_is)
+                places_after-answer places before.events
+                (event_of policy before.machine call) i answers next answer count
+                (omega arith) inv.answers_are c
+                (b ∙ ap (λ m. (step policy m call).answer) inv.machine_is)
                 ∙ ap (λ (r : Run k). places_after r.events places) at;
           }
 
@@ -96,13 +111,15 @@ module _ {k : Kind} (policy : Policy k) where
 
       -- With a place for each call, the answers are all that the places hold.
       pub answers_of_all :
-          (len : ℕ) (answers rest : List (Result Answer Fault)) → length places ≡ length calls → len ≡ length calls
+          (len : ℕ) (answers rest : List (Result Answer Fault)) → length places ≡ length calls
+          → len ≡ length calls
           → answers ≡ places_after (run policy start (calls_made calls places)).events places
           → take len (answers ++ rest) ≡ answers_in (run policy start calls).events
       answers_of_all len answers rest room is e =
           let events = (run policy start calls).events in
           let count = length-events start calls in
-          let made : calls_made calls places ≡ calls = take_all (length places) calls (omega arith) in
+          let made : calls_made calls places ≡ calls =
+          take_all (length places) calls (omega arith) in
           let whole : answers ≡ answers_in events =
           e ∙ ap (λ cs. places_after (run policy start cs).events places) made
           ∙ ap (λ ps. answers_in events ++ ps) (drop_all (length events) places (omega arith))

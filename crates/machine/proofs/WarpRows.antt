@@ -7,19 +7,22 @@ use Rattle.machine.specs.Logs.{store_entry}
 use Rattle.machine.specs.Rows.{warp_row_in, no_row}
 use Rattle.machine.specs.declared.row.Row.{Row}
 
-pub warp_row_row : (rows : List Row) (w : ℕ) → warp_row_at (map warp_row_in rows) w ≡ warp_row_in (get_or rows w no_row)
+pub warp_row_row : (rows : List Row) (w : ℕ)
+    → warp_row_at (map warp_row_in rows) w ≡ warp_row_in (get_or rows w no_row)
 warp_row_row rows w = get_or-map warp_row_in rows w no_row
 
 -- The row at a place.
 pub warp_row_here :
     (rows : List Row) (w : ℕ) (row : Row) → w < length rows → row ≡ get_or rows w row
     → warp_row_in row ≡ warp_row_at (map warp_row_in rows) w
-warp_row_here rows w row low is = ap warp_row_in (is ∙ get_or_default rows w row no_row low) ∙ sym (warp_row_row rows w)
+warp_row_here rows w row low is = ap warp_row_in (is ∙ get_or_default rows w row no_row low)
+    ∙ sym (warp_row_row rows w)
 
 pub warp_rows_set :
     (rows : List Row) (w : ℕ) (row : Row) (warp_row : WarpRow) → warp_row_in row ≡ warp_row
     → map warp_row_in (set rows w row) ≡ set (map warp_row_in rows) w warp_row
-warp_rows_set rows w row warp_row is = map-set warp_row_in rows w row ∙ ap (set (map warp_row_in rows) w) is
+warp_rows_set rows w row warp_row is = map-set warp_row_in rows w row
+    ∙ ap (set (map warp_row_in rows) w) is
 
 -- A row's number of stores is the length of its log.
 pub log_long : (row : Row) → length (warp_row_in row).log ≡ row.len

@@ -1,5 +1,6 @@
 -- What the parts of a call leave of the machine.
-use Rattle.std.specs.Prelude.{ℕ, [], ◌∷◌, ◌++◌, length, Some, None, Ok, Err, Option, Result, nat_le, nat_lt}
+use Rattle.std.specs.Prelude.{ℕ, [], ◌∷◌, ◌++◌, length, Some, None, Ok, Err, Option, Result, nat_le}
+use Rattle.std.specs.Prelude.{nat_lt}
 use Rattle.std.specs.Option.{unwrap_or, option_or}
 use Rattle.protocol.specs.Limits.{log_limit, last_stamp}
 use Rattle.protocol.specs.declared.answer.Outcome.{Outcome}
@@ -11,19 +12,20 @@ use Rattle.rules.specs.declared.state.Access.{Access}
 use Rattle.rules.specs.declared.state.Phase.TheVariants.{Waiting}
 use Rattle.rules.specs.declared.state.Request.{Request}
 use Rattle.rules.specs.Logs.{last_stored}
-use Rattle.rules.specs.State.{WarpRow, Machine, with_book, with_warp_row, with_queue, row_in_phase, time_of, warp_row_of}
+use Rattle.rules.specs.State.{WarpRow, Machine, with_book, with_warp_row, with_queue, row_in_phase}
+use Rattle.rules.specs.State.{time_of, warp_row_of}
 use Rattle.rules.specs.declared.verdict.Verdict.{Verdict}
 use Rattle.rules.specs.declared.verdict.Verdict.TheVariants.{MustWait}
 use Rattle.rules.specs.Access.{verdict_with_room}
 use Rattle.rules.specs.Queue.{Policy, is_full}
-use Rattle.rules.specs.Ending.{AfterTries, with_outcome, after_settling, after_turn, after_turns}
+use Rattle.rules.specs.Ending.{AfterRetries, with_outcome, after_settling, after_turn, after_turns}
 use Rattle.rules.specs.Steps.{Step, step_by_verdict, step}
 use Rattle.rules.specs.Serving.{memory_value, served_on_free_line}
-use Rattle.rules.specs.Refusals.{fault_unless, refusal_fault, phase_refuses, number_fault}
+use Rattle.rules.specs.Refusals.{fault_unless, refusal_fault, phase_refusal, number_fault}
 
 module _ {k : Kind} where
   -- Before the first retry: nothing is settled yet.
-  abbrev pub before_tries : Machine k → AfterTries k
+  abbrev pub before_tries : Machine k → AfterRetries k
   before_tries m = record { machine = m; settled = [] }
 
   -- A warp gets an outcome to fetch.
@@ -33,7 +35,8 @@ module _ {k : Kind} where
   -- A waiting request is served and settled.
   abbrev pub after_serving : Machine k → ℕ → ℕ → Access → Machine k
   after_serving m w line access =
-      let served = served_on_free_line m w line access in after_settling served.machine w served.outcome
+      let served = served_on_free_line m w line access
+      in after_settling served.machine w served.outcome
 
   -- The machine after one warp's turn at a line, and after all turns at it.
   abbrev pub machine_after_turn : ℕ → Machine k → ℕ → Machine k
@@ -53,15 +56,19 @@ module _ {k : Kind} where
   -- The verdict on a request that must wait: without room in the queue its transaction is gone.
   abbrev pub wait_verdict : Policy k → Machine k → ℕ → ℕ → Verdict
   wait_verdict policy m w line =
-      verdict_with_room (is_full policy.line_room policy.queue_room m.queue line) (warp_row_of m w).stamp MustWait
+      verdict_with_room (is_full policy.line_room policy.queue_room m.queue line)
+      (warp_row_of m w).stamp MustWait
 
   -- Its step.
   abbrev pub wait_step : Policy k → Machine k → ℕ → ℕ → Access → Step k
-  wait_step policy m w line access = step_by_verdict policy m w line access (wait_verdict policy m w line)
+  wait_step policy m w line access =
+      step_by_verdict policy m w line access (wait_verdict policy m w line)
 
   -- A request joins the queue, behind all others; its warp waits.
   abbrev pub with_request : Machine k → Request → Machine k
-  with_request m r = with_queue (with_warp_row m r.warp (row_in_phase (warp_row_of m r.warp) Waiting)) (m.queue ++ r ∷ [])
+  with_request m r =
+      with_queue (with_warp_row m r.warp (row_in_phase (warp_row_of m r.warp) Waiting))
+      (m.queue ++ r ∷ [])
 
   -- The step of one of the six calls.
   abbrev pub step_of : Policy k → Machine k → ℕ → Op → Step k
@@ -76,7 +83,8 @@ clock_fault l = fault_unless (nat_le l.stamp last_stamp) ClockSpent l.stamp
 
 -- The fault of a call of a warp that the machine has.
 abbrev pub warp_fault : {k : Kind} → Machine k → ℕ → Op → Option Fault
-warp_fault m w op = option_or (refusal_fault (phase_refuses (warp_row_of m w).phase op) w) (number_fault m w op)
+warp_fault m w op = option_or (refusal_fault (phase_refusal (warp_row_of m w).phase op) w)
+    (number_fault m w op)
 
 -- A refusal, if there is one, as a result.
 abbrev pub as_result : Option Fault → Result (Unit {0}) Fault

@@ -8,10 +8,17 @@ use Rattle.machine.specs.Warps.{warp_rows, queue_of}
 use Rattle.machine.specs.declared.warps.Warps.{Warps}
 use Rattle.machine.specs.declared.machine.Machine.{Machine}
 
--- Its state in the rules: the meanings of its memory and its book, a row for each warp, and the requests that wait.
+-- Its state in the rules: the meanings of its memory and its book, a row for each warp, and the
+-- requests that wait.
 abbrev pub state : {M B : Type 0} → (M → Lines) → (k : Kind) → (B → k.State) → Machine M B → State k
 state at k model m =
-    record { lines = at m.memory; book = model m.book; warp_rows = warp_rows m.warps; queue = queue_of m.warps }
+    record {
+      lines = at m.memory;
+      book = model m.book;
+      warp_rows = warp_rows m.warps;
+      queue
+          = queue_of m.warps;
+    }
 
 -- Its policy: the order of retries and the limits of the queue. Every machine has the product's.
 abbrev pub policy_of : {M B : Type 0} → (k : Kind) → Machine M B → Policy k

@@ -9,7 +9,8 @@ use Rattle.machine.specs.declared.row.Row.{Row}
 
 -- A row of the table as a row of the rules.
 abbrev pub warp_row_in : Row → WarpRow
-warp_row_in row = record { phase = row.phase; stamp = row.stamp; log = first_entries row.len row.stores }
+warp_row_in row =
+    record { phase = row.phase; stamp = row.stamp; log = first_entries row.len row.stores }
 
 -- What places hold that are not in use.
 abbrev pub no_store : Store

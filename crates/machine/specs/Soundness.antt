@@ -1,6 +1,8 @@
--- When the queue fits the rows: a request is of a waiting warp, which has no other request, and a store that waits has
+-- When the queue fits the rows: a request is of a waiting warp, which has no other request, and a
+-- store that waits has
 -- room in its warp's log.
-use Rattle.std.specs.Prelude.{◌≡◌, Bool, true, not, ◌&&◌, List, [], ◌∷◌, is_some, nat_lt, slice_index_or}
+use Rattle.std.specs.Prelude.{◌≡◌, Bool, true, not, ◌&&◌, List, [], ◌∷◌, is_some, nat_lt}
+use Rattle.std.specs.Prelude.{slice_index_or}
 use Rattle.protocol.specs.Limits.{log_limit}
 use Rattle.rules.specs.Queue.{request_of}
 use Rattle.rules.specs.State.{is_waiting}
@@ -18,7 +20,8 @@ is_fitting row (Write value) = is_waiting row.phase && nat_lt row.len log_limit
 abbrev pub is_sound : List Row → List Request → Bool
 is_sound rows [] = true
 is_sound rows (r ∷ rest) =
-    is_fitting (slice_index_or rows r.warp no_row) r.access && (not (is_some (request_of rest r.warp)) && is_sound rows rest)
+    is_fitting (slice_index_or rows r.warp no_row) r.access
+    && (not (is_some (request_of rest r.warp)) && is_sound rows rest)
 
 abbrev pub IsSound : List Row → List Request → Type 0
 IsSound rows queue = is_sound rows queue ≡ true

@@ -1,7 +1,7 @@
 //! Refusals. Of several, the one with the lowest number is reported.
 ghost use Rattle.std.specs.Prelude.{◌≡◌, length, nat_lt};
 ghost use Rattle.protocol.specs.declared.fault.Refusal.TheVariants.{NoSuchWarp, NoSuchLine};
-ghost use Rattle.rules.specs.Refusals.{idle_refuses, open_refuses, pending_refuses, phase_refuses};
+ghost use Rattle.rules.specs.Refusals.{idle_refusal, open_refusal, pending_refusal, phase_refusal};
 ghost use Rattle.rules.specs.Refusals.{refusal_fault, fault_unless, has_line};
 ghost use Rattle.rules.specs.Refusals.{number_fault, fault_of};
 ghost use Rattle.machine.specs.Warps.{warp_rows, warp_row};
@@ -17,7 +17,7 @@ use rules::Phase;
 
 /// Why an idle warp is refused an operation, if it is.
 fn idle_refuses(op: Op) -> Option<Refusal>
-    ensures { result ≡ idle_refuses op }
+    ensures { result ≡ idle_refusal op }
 {
     match op {
         Op::Begin => None,
@@ -29,7 +29,7 @@ fn idle_refuses(op: Op) -> Option<Refusal>
 
 /// Why an open warp is refused an operation, if it is.
 fn open_refuses(op: Op) -> Option<Refusal>
-    ensures { result ≡ open_refuses op }
+    ensures { result ≡ open_refusal op }
 {
     match op {
         Op::Begin => Some(Refusal::WarpNotIdle),
@@ -40,7 +40,7 @@ fn open_refuses(op: Op) -> Option<Refusal>
 
 /// Why a warp is refused an operation while it waits, or has an outcome to fetch.
 fn pending_refuses(op: Op) -> Option<Refusal>
-    ensures { result ≡ pending_refuses op }
+    ensures { result ≡ pending_refusal op }
 {
     match op {
         Op::Begin => Some(Refusal::WarpNotIdle),
@@ -51,7 +51,7 @@ fn pending_refuses(op: Op) -> Option<Refusal>
 
 /// Why a warp in a phase is refused an operation, if it is.
 fn phase_refuses(phase: Phase, op: Op) -> Option<Refusal>
-    ensures { result ≡ phase_refuses phase op }
+    ensures { result ≡ phase_refusal phase op }
 {
     match phase {
         Phase::Idle => idle_refuses(op),
@@ -75,7 +75,7 @@ impl<M: Memory, B: Book> Machine<M, B> {
     /// Checks that the warp may ask for this in its phase.
     fn check_phase(&self, call: Call) -> Result<(), Fault>
         ensures { result ≡ as_result
-            (refusal_fault (phase_refuses (warp_row self.now.warps call.warp).phase call.op)
+            (refusal_fault (phase_refusal (warp_row self.now.warps call.warp).phase call.op)
             call.warp) }
     {
         match phase_refuses(self.warps.phase(call.warp), call.op) {

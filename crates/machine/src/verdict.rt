@@ -1,6 +1,7 @@
 //! The access steps, which give a load or a store its verdict. The first step that applies decides.
 ghost use Rattle.std.specs.Prelude.{◌≡◌, ◌≤◌};
-ghost use Rattle.rules.specs.Access.{stamp_past, unowned, by_owner, by_mark, retried, decide};
+ghost use Rattle.rules.specs.Access.{stamp_past, verdict_on_free_line, verdict_by_owner};
+ghost use Rattle.rules.specs.Access.{verdict_by_read_mark, retry_verdict, access_verdict};
 ghost use Rattle.machine.specs.Phases.{highest_stamp};
 ghost use Rattle.machine.specs.Verdicts.{NextWithin};
 
@@ -22,7 +23,7 @@ pub struct Encounter {
 impl Encounter {
     /// All steps, in their order. The first: the line is reserved for the warp itself.
     pub fn decide(self) -> Verdict
-        ensures value { result ≡ decide self.access self.line self.time }
+        ensures value { result ≡ access_verdict self.access self.line self.time }
         ensures bound { NextWithin highest_stamp result }
     {
         let (_, warp) = self.time;
@@ -35,7 +36,7 @@ impl Encounter {
     /// The second step, and the first of a retry: a logically later transaction wrote the line, so
     /// this one is gone.
     pub fn retried(self) -> Verdict
-        ensures value { result ≡ retried self.access self.line self.time }
+        ensures value { result ≡ retry_verdict self.access self.line self.time }
         ensures bound { NextWithin highest_stamp result }
     {
         let (stamp, _) = self.time;
@@ -50,7 +51,7 @@ impl Encounter {
 
     /// A store to a line that a logically later transaction read: its transaction is gone.
     fn by_mark(self) -> Verdict
-        ensures value { result ≡ by_mark self.access self.line self.time }
+        ensures value { result ≡ verdict_by_read_mark self.access self.line self.time }
         ensures bound { NextWithin highest_stamp result }
     {
         let (read, by) = self.line.read_mark;
@@ -65,7 +66,7 @@ impl Encounter {
 
     /// A line that is reserved for another warp: the request must wait.
     fn by_owner(self) -> Verdict
-        ensures value { result ≡ by_owner self.line.owner self.access self.line self.time }
+        ensures value { result ≡ verdict_by_owner self.line.owner self.access self.line self.time }
         ensures bound { NextWithin highest_stamp result }
     {
         match self.line.owner {
@@ -76,7 +77,7 @@ impl Encounter {
 
     /// A line that is not reserved: a load goes on, and so does a store if the line has a slot.
     fn unowned(self) -> Verdict
-        ensures value { result ≡ unowned self.access self.line self.time }
+        ensures value { result ≡ verdict_on_free_line self.access self.line self.time }
         ensures bound { NextWithin highest_stamp result }
     {
         let (stamp, _) = self.time;

@@ -9,7 +9,8 @@ use Rattle.memory.specs.Lines.{byte_lines, little_endian, odd_bytes, lines_with}
 
 -- Four bytes written from a place on.
 abbrev pub four_set : List ℕ → ℕ → ℕ → ℕ → ℕ → ℕ → List ℕ
-four_set bytes place a b c d = set (set (set (set bytes place a) (place + 1) b) (place + 2) c) (place + 3) d
+four_set bytes place a b c d =
+    set (set (set (set bytes place a) (place + 1) b) (place + 2) c) (place + 3) d
 
 module _ (bytes : List ℕ) (place a b c d : ℕ) where
   four_apart :
@@ -33,22 +34,27 @@ bytes_of :
     → v % 256 + v / 256 % 256 * 256 + v / 65536 % 256 * 65536 + v / 16777216 % 256 * 16777216 ≡ v
 bytes_of v h =
     let top : v / 16777216 % 256 ≡ v / 16777216 = omega arith in
-    let next : v / 256 ≡ v / 256 % 256 + v / 65536 * 256 = omega (arith, div-div-eq-div-mul v 256 256) in
-    let third : v / 65536 ≡ v / 65536 % 256 + v / 16777216 * 256 = omega (arith, div-div-eq-div-mul v 65536 256) in
+    let next : v / 256 ≡ v / 256 % 256 + v / 65536 * 256 =
+    omega (arith, div-div-eq-div-mul v 256 256) in
+    let third : v / 65536 ≡ v / 65536 % 256 + v / 16777216 * 256 =
+    omega (arith, div-div-eq-div-mul v 65536 256) in
     rw top (four_digits v (v / 256) (v / 65536) (v / 16777216) _ _ _ (omega arith) next third)
 
 -- The bytes of a value, written at a line.
 abbrev pub line_set : List ℕ → ℕ → ℕ → List ℕ
-line_set bytes line v = four_set bytes (4 * line) (v % 256) (v / 256 % 256) (v / 65536 % 256) (v / 16777216 % 256)
+line_set bytes line v = four_set bytes (4 * line) (v % 256) (v / 256 % 256) (v / 65536 % 256)
+    (v / 16777216 % 256)
 
 module _ (bytes : List ℕ) (line value : ℕ) (h : line < length bytes / 4) (v : value < 2 ^ 32) where
   same_line : little_endian (line_set bytes line value) (4 * line) ≡ value
   same_line = four_number bytes (4 * line) _ _ _ _ (omega arith) ∙ bytes_of value v
 
   apart_line :
-      (n k : ℕ) → (n ≡ line → ⊥) → k < 4 → get_or (line_set bytes line value) (4 * n + k) 0 ≡ get_or bytes (4 * n + k) 0
+      (n k : ℕ) → (n ≡ line → ⊥) → k < 4
+      → get_or (line_set bytes line value) (4 * n + k) 0 ≡ get_or bytes (4 * n + k) 0
   apart_line n k ne l =
-      four_apart bytes (4 * line) _ _ _ _ (4 * n + k) (omega arith) (omega arith) (omega arith) (omega arith)
+      four_apart bytes (4 * line) _ _ _ _ (4 * n + k) (omega arith) (omega arith) (omega arith)
+      (omega arith)
 
   at_line :
       (n : ℕ) (t : Bool) → eqb n line ≡ t
@@ -67,8 +73,10 @@ module _ (bytes : List ℕ) (line value : ℕ) (h : line < length bytes / 4) (v 
 
   pub line_written :
       (four : List ℕ)
-      → four ≡ (value % 256) ∷ (value / 256 % 256) ∷ (value / 65536 % 256) ∷ (value / 16777216 % 256) ∷ []
-      → byte_lines (four_set bytes (4 * line) (get_or four 0 0) (get_or four 1 0) (get_or four 2 0) (get_or four 3 0))
+      → four ≡ (value % 256) ∷ (value / 256 % 256) ∷ (value / 65536 % 256)
+      ∷ (value / 16777216 % 256) ∷ []
+      → byte_lines (four_set bytes (4 * line) (get_or four 0 0) (get_or four 1 0) (get_or four 2 0)
+      (get_or four 3 0))
       ≡ lines_with (byte_lines bytes) line value
   line_written four is = rw is (fun_ext (λ n. at_line n (eqb n line) refl))
 

@@ -30,7 +30,8 @@ word_lines words n = cond (nat_lt n (length words)) (Some (slice_index words n))
 -- Four bytes from a position on as one number, least significant first.
 abbrev pub little_endian : List ℕ → ℕ → ℕ
 little_endian bytes place =
-    slice_index bytes place + slice_index bytes (place + 1) * 256 + slice_index bytes (place + 2) * 65536
+    slice_index bytes place + slice_index bytes (place + 1) * 256 + slice_index bytes
+    (place + 2) * 65536
     + slice_index bytes (place + 3) * 16777216
 
 -- The caller's bytes: four to a line. Up to three bytes left over at the end are in no line.

@@ -25,7 +25,8 @@ op_named letter line value = find (λ op. letter == op_letter op) (ops_at line v
 abbrev pub LettersNameBack : Type 0
 LettersNameBack =
     (line value : ℕ)
-    → map (λ op. op_named (op_letter op) line value) (ops_at line value) ≡ map Some (ops_at line value)
+    → map (λ op. op_named (op_letter op) line value) (ops_at line value) ≡ map Some
+    (ops_at line value)
 
 -- The operation that a letter stands for has that letter.
 abbrev pub NamesKeepLetters : Type 0

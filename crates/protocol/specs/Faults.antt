@@ -62,4 +62,5 @@ fault_in_file why place = record { refusal = why; layer = File; number = place }
 
 -- The same refusal with another offending number.
 abbrev pub fault_with_number : Fault → ℕ → Fault
-fault_with_number fault number = record { refusal = fault.refusal; layer = fault.layer; number = number }
+fault_with_number fault number =
+    record { refusal = fault.refusal; layer = fault.layer; number = number }

@@ -19,7 +19,8 @@ pub at_first : (ours theirs : List (List ℕ)) → Along ours theirs ours theirs
 at_first ours theirs = record { same = []; count = refl; ours_go_on = refl; theirs_go_on = refl }
 
 pub one_more :
-    (ours theirs our_rest their_rest our_next their_next : List (List ℕ)) (our_row their_row : List ℕ) (row : ℕ)
+    (ours theirs our_rest their_rest our_next their_next : List (List ℕ))
+    (our_row their_row : List ℕ) (row : ℕ)
     → Along ours theirs our_rest their_rest row
     → our_rest ≡ our_row ∷ our_next → their_rest ≡ their_row ∷ their_next → our_row ≡ their_row
     → Along ours theirs our_next their_next (row + 1)
@@ -27,14 +28,16 @@ one_more ours theirs our_rest their_rest our_next their_next our_row their_row r
     record {
       same = a.same ++ our_row ∷ [];
       count = simp length-append (omega (arith, a.count));
-      ours_go_on = a.ours_go_on ∙ ap (λ r. a.same ++ r) e ∙ sym (append_assoc a.same (our_row ∷ []) our_next);
+      ours_go_on = a.ours_go_on ∙ ap (λ r. a.same ++ r) e
+          ∙ sym (append_assoc a.same (our_row ∷ []) our_next);
       theirs_go_on =
           a.theirs_go_on ∙ ap (λ r. a.same ++ r) (f ∙ ap (λ r. r ∷ their_next) (sym g))
           ∙ sym (append_assoc a.same (our_row ∷ []) their_next);
     }
 
 pub found :
-    (ours theirs our_rest their_rest : List (List ℕ)) (row : ℕ) (our_row their_row : Option (List ℕ))
+    (ours theirs our_rest their_rest : List (List ℕ)) (row : ℕ)
+    (our_row their_row : Option (List ℕ))
     → Along ours theirs our_rest their_rest row
     → our_row ≡ first_row our_rest → their_row ≡ first_row their_rest → our_row ≢ their_row
     → FirstDiffers ours theirs (row + 1) our_row their_row
@@ -56,7 +59,8 @@ abbrev pub text_of : List (List ℕ) → List ℕ
 text_of [] = []
 text_of (row ∷ rows) = row ++ text_of rows
 
-text_of-with_byte : (byte : ℕ) (rows : List (List ℕ)) → text_of (with_byte byte rows) ≡ byte ∷ text_of rows
+text_of-with_byte : (byte : ℕ) (rows : List (List ℕ))
+    → text_of (with_byte byte rows) ≡ byte ∷ text_of rows
 text_of-with_byte byte [] = refl
 text_of-with_byte byte (row ∷ rows) = refl
 
@@ -77,8 +81,10 @@ module _ (ours theirs our_rest their_rest : List ℕ) (row : ℕ) where
       Along (rows_of ours) (rows_of theirs) (rows_of our_rest) (rows_of their_rest) row
       → our_rest ≡ [] → their_rest ≡ [] → (ours ≡ theirs) × (row ≡ length (rows_of ours))
   all_same a e f =
-      let mine : rows_of ours ≡ a.same = a.ours_go_on ∙ ap (λ t. a.same ++ rows_of t) e ∙ append-nil a.same in
-      let yours : rows_of theirs ≡ a.same = a.theirs_go_on ∙ ap (λ t. a.same ++ rows_of t) f ∙ append-nil a.same in (
+      let mine : rows_of ours ≡ a.same = a.ours_go_on ∙ ap (λ t. a.same ++ rows_of t) e
+      ∙ append-nil a.same in
+      let yours : rows_of theirs ≡ a.same = a.theirs_go_on ∙ ap (λ t. a.same ++ rows_of t) f
+      ∙ append-nil a.same in (
         sym (text_of-rows_of ours) ∙ ap text_of (mine ∙ sym yours) ∙ text_of-rows_of theirs,
         a.count ∙ ap length (sym mine),
       )

@@ -12,7 +12,8 @@ first_row [] = None
 first_row (row ∷ rows) = Some row
 
 -- The rows before this one are the same in both listings, and this row is not.
-pub record FirstDiffers (ours theirs : List (List ℕ)) (row : ℕ) (our_row their_row : Option (List ℕ)) : Type 0 where
+pub record FirstDiffers (ours theirs : List (List ℕ)) (row : ℕ)
+    (our_row their_row : Option (List ℕ)) : Type 0 where
   pub same : List (List ℕ)
   pub our_rest : List (List ℕ)
   pub their_rest : List (List ℕ)
@@ -28,7 +29,8 @@ pub record FirstDiffers (ours theirs : List (List ℕ)) (row : ℕ) (our_row the
 abbrev pub Compared : List ℕ → List ℕ → Comparison → Type 0
 Compared ours theirs (Match rows) = (ours ≡ theirs) × (rows ≡ length (rows_of ours))
 Compared ours theirs (Differs row our_row their_row) =
-    FirstDiffers (rows_of ours) (rows_of theirs) row (option_map (λ r. r.now) our_row) (option_map (λ r. r.now) their_row)
+    FirstDiffers (rows_of ours) (rows_of theirs) row (option_map (λ r. r.now) our_row)
+    (option_map (λ r. r.now) their_row)
 
 abbrev pub IsMatch : Comparison → Type 0
 IsMatch (Match rows) = Unit {0}
@@ -36,4 +38,5 @@ IsMatch (Differs row our_row their_row) = ⊥
 
 -- A comparison is a match exactly if the two listings are the same, byte for byte.
 abbrev pub MatchIsExact : Type 0
-MatchIsExact = (ours theirs : List ℕ) (said : Comparison) → Compared ours theirs said → IsMatch said ↔ (ours ≡ theirs)
+MatchIsExact = (ours theirs : List ℕ) (said : Comparison) → Compared ours theirs said
+    → IsMatch said ↔ (ours ≡ theirs)

@@ -9,7 +9,8 @@ with_byte byte (row ∷ rows) = (byte ∷ row) ∷ rows
 -- The rows of a text. A row ends with its line feed; the last row may lack one.
 abbrev pub rows_of : List ℕ → List (List ℕ)
 rows_of [] = []
-rows_of (byte ∷ rest) = cond (byte == 10) ((byte ∷ []) ∷ rows_of rest) (with_byte byte (rows_of rest))
+rows_of (byte ∷ rest) =
+    cond (byte == 10) ((byte ∷ []) ∷ rows_of rest) (with_byte byte (rows_of rest))
 
 -- The size of the first row of a text.
 abbrev pub row_size : List ℕ → ℕ

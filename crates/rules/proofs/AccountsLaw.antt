@@ -20,7 +20,8 @@ use Rattle.rules.proofs.Calls.{run_keeps, new_keeps, no_writer, refused_stays}
 
 -- The invariant contains the four facts of SerialOrders.
 serial :
-    (k : Kind) (first : Lines) (E : ℕ → ℕ → Type 0) (m : Machine k) (l : Ledger) → Invariant k first E m l
+    (k : Kind) (first : Lines) (E : ℕ → ℕ → Type 0) (m : Machine k) (l : Ledger)
+    → Invariant k first E m l
     → Serial first l.committed m.lines
 serial k first E m l I =
     record {
@@ -30,7 +31,8 @@ serial k first E m l I =
           each_weaker
           (ReadNow k first l.committed (hold l) m.book i (transaction_named l.committed i).stamp
           (transaction_named l.committed i).warp)
-          (IsRightSource first l.committed i (transaction_named l.committed i).stamp (transaction_named l.committed i).warp)
+          (IsRightSource first l.committed i (transaction_named l.committed i).stamp
+          (transaction_named l.committed i).warp)
           (λ line v f r. r.right) (transaction_named l.committed i).actions (I.history.past i low);
       last = I.history.core.last;
       warps = I.history.core.warps;
@@ -49,11 +51,13 @@ nothing_serial first =
     }
 
 pub law_of_accounts : (k : Kind) → LawOfAccounts k
-law_of_accounts k keeps policy lines book good stamps calls = by_fault (making_fault k book stamps) refl
+law_of_accounts k keeps policy lines book good stamps calls =
+    by_fault (making_fault k book stamps) refl
   where
     by_fault :
         (o : Option Fault) → making_fault k book stamps ≡ o
-        → AccountsAgree lines (ledger_of (run policy (new_machine k lines book stamps) calls).events)
+        → AccountsAgree lines
+        (ledger_of (run policy (new_machine k lines book stamps) calls).events)
         (run policy (new_machine k lines book stamps) calls).machine.lines
     by_fault None e =
         let I =
@@ -61,16 +65,20 @@ law_of_accounts k keeps policy lines book good stamps calls = by_fault (making_f
         (record { machine = new_machine k lines book stamps; events = [] })
         (new_keeps k keeps (Unit {0}) lines book good stamps e)
         in
-        accounts_agree lines (ledger_of (run policy (new_machine k lines book stamps) calls).events).committed
+        accounts_agree lines
+        (ledger_of (run policy (new_machine k lines book stamps) calls).events).committed
         (run policy (new_machine k lines book stamps) calls).machine.lines
-        (serial k lines (λ v n. Unit {0}) (run policy (new_machine k lines book stamps) calls).machine
+        (serial k lines (λ v n. Unit {0})
+        (run policy (new_machine k lines book stamps) calls).machine
         (ledger_of (run policy (new_machine k lines book stamps) calls).events) I)
     by_fault (Some f) e =
         let kept =
-        refused_stays k policy calls (record { machine = new_machine k lines book stamps; events = [] })
+        refused_stays k policy calls
+        (record { machine = new_machine k lines book stamps; events = [] })
         (ap (λ o. first_warp_rows o stamps) e) refl
         in
-        subst (λ l. AccountsAgree lines l (run policy (new_machine k lines book stamps) calls).machine.lines)
+        subst (λ l. AccountsAgree lines l
+        (run policy (new_machine k lines book stamps) calls).machine.lines)
         (sym kept.1)
         (subst (λ (m : Machine k). AccountsAgree lines new_ledger m.lines) (sym kept.0)
         (accounts_agree lines [] lines (nothing_serial lines)))

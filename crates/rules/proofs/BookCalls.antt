@@ -17,10 +17,13 @@ earlier_same : (t : Time) → earlier t t ≡ false
 earlier_same t = grind (arith, nat_tests)
 
 module _ (k : Kind) (keeps : Keeps k) where
-  sound : (line t w : ℕ) (s : k.State) → line < line_limit → t ≤ last_stamp → w < 32 → can_note k s line (t, w) ≡ true
+  sound : (line t w : ℕ) (s : k.State) → line < line_limit → t ≤ last_stamp → w < 32
+      → can_note k s line (t, w) ≡ true
   sound line t w s a b c =
-      and_from (ltb line line_limit) (leb t last_stamp && ltb w warp_limit) (lt-ltb line line_limit a)
-      (and_from (leb t last_stamp) (ltb w warp_limit) (le-leb t last_stamp b) (lt-ltb w warp_limit c))
+      and_from (ltb line line_limit) (leb t last_stamp && ltb w warp_limit)
+      (lt-ltb line line_limit a)
+      (and_from (leb t last_stamp) (ltb w warp_limit) (le-leb t last_stamp b)
+      (lt-ltb w warp_limit c))
 
   -- After a read is noted.
   pub record Noted (s s' : k.State) (line t w : ℕ) : Type 0 where
@@ -56,7 +59,8 @@ module _ (k : Kind) (keeps : Keeps k) where
     pub counts : (at : ℕ) → at < line_limit → (at ≡ line → ⊥) → k.stores s' at ≡ k.stores s at
 
   pub after_add :
-      (s : k.State) → k.Good s → (line : ℕ) → can_add k s line ≡ true → Added s (state_after_add k s line) line
+      (s : k.State) → k.Good s → (line : ℕ) → can_add k s line ≡ true
+      → Added s (state_after_add k s line) line
   after_add s good line can =
       let n = keeps.adds s good line can in
       subst (λ b. Added s (cond b (k.add s line) s) line) (sym can)
@@ -68,7 +72,8 @@ module _ (k : Kind) (keeps : Keeps k) where
               marks = n.1.grows.mark_grows;
               owners =
                   λ at l.
-                  ⊎_elim (λ e. ap (k.owner (k.add s line)) e ∙ n.1.same_owner ∙ ap (k.owner s) (sym e))
+                  ⊎_elim (λ e. ap (k.owner (k.add s line)) e ∙ n.1.same_owner
+                  ∙ ap (k.owner s) (sym e))
                   (λ e. (n.1.stays at l e).same_owner) (cases_eq at line);
             };
         one_more = n.1.one_more;
@@ -98,10 +103,12 @@ module _ (k : Kind) (keeps : Keeps k) where
   pub after_reservation :
       (s : k.State) → k.Good s → (line t w : ℕ) → line < line_limit → t ≤ last_stamp → w < 32
       → k.owner s line ≡ None → k.has_slot s line ≡ true → k.write_stamp s line ≤ t
-      → earlier (t, w) (k.read_mark s line) ≡ false → ReservedByCall s (state_after_reserve k s line (t, w)) line t w
+      → earlier (t, w) (k.read_mark s line) ≡ false
+      → ReservedByCall s (state_after_reserve k s line (t, w)) line t w
   after_reservation s good line t w a b c none slot below unread =
       let can : can_reserve k s line (t, w) ≡ true =
-      and_from (can_note k s line (t, w)) (not (is_reserved k s line) && k.has_slot s line) (sound line t w s a b c)
+      and_from (can_note k s line (t, w)) (not (is_reserved k s line) && k.has_slot s line)
+      (sound line t w s a b c)
       (and_from (not (is_reserved k s line)) (k.has_slot s line)
       (not_from_false (is_reserved k s line) (not_reserved s good line a none)) slot)
       in
@@ -130,16 +137,22 @@ module _ (k : Kind) (keeps : Keeps k) where
   pub record Freed (s s' : k.State) (lines : List ℕ) : Type 0 where
     pub good : k.Good s'
     pub stamps : (line : ℕ) → line < line_limit → k.write_stamp s line ≤ k.write_stamp s' line
-    pub marks : (line : ℕ) → line < line_limit → earlier (k.read_mark s' line) (k.read_mark s line) ≡ false
-    pub released_ones : (line : ℕ) → line < line_limit → has line lines ≡ true → k.owner s' line ≡ None
-    pub others : (line : ℕ) → line < line_limit → has line lines ≡ false → k.owner s' line ≡ k.owner s line
-    pub counts : (line : ℕ) → line < line_limit → has line lines ≡ false → k.stores s' line ≡ k.stores s line
+    pub marks : (line : ℕ) → line < line_limit
+        → earlier (k.read_mark s' line) (k.read_mark s line) ≡ false
+    pub released_ones : (line : ℕ) → line < line_limit → has line lines ≡ true
+        → k.owner s' line ≡ None
+    pub others : (line : ℕ) → line < line_limit → has line lines ≡ false
+        → k.owner s' line ≡ k.owner s line
+    pub counts : (line : ℕ) → line < line_limit → has line lines ≡ false
+        → k.stores s' line ≡ k.stores s line
     pub still_none : (line : ℕ) → line < line_limit → k.owner s line ≡ None → k.owner s' line ≡ None
 
-  after_one : (s : k.State) → k.Good s → (line : ℕ) → Freed s (state_after_release k s line) (line ∷ [])
+  after_one : (s : k.State) → k.Good s → (line : ℕ)
+      → Freed s (state_after_release k s line) (line ∷ [])
   after_one s good line = step (can_release k s line) refl
     where
-      step : (b : Bool) → can_release k s line ≡ b → Freed s (cond b (k.release s line) s) (line ∷ [])
+      step : (b : Bool) → can_release k s line ≡ b
+          → Freed s (cond b (k.release s line) s) (line ∷ [])
       step true can =
           let n = keeps.releases s good line can in
           let free : k.owner (k.release s line) line ≡ None =
@@ -157,16 +170,19 @@ module _ (k : Kind) (keeps : Keeps k) where
             others =
                 λ at l h.
                 (n.1.stays at l
-                (λ e. both_ways (eqb line at) (or_parts (eqb line at) false h).0 (eq-eqb line at (sym e)))
+                (λ e. both_ways (eqb line at) (or_parts (eqb line at) false h).0
+                (eq-eqb line at (sym e)))
                 ).same_owner;
             counts =
                 λ at l h.
                 (n.1.stays at l
-                (λ e. both_ways (eqb line at) (or_parts (eqb line at) false h).0 (eq-eqb line at (sym e)))
+                (λ e. both_ways (eqb line at) (or_parts (eqb line at) false h).0
+                (eq-eqb line at (sym e)))
                 ).same_stores;
             still_none =
                 λ at l h.
-                ⊎_elim (λ e. away at (sym e)) (λ e. (n.1.stays at l e).same_owner ∙ h) (cases_eq at line);
+                ⊎_elim (λ e. away at (sym e)) (λ e. (n.1.stays at l e).same_owner ∙ h)
+                (cases_eq at line);
           }
         where
           or_false : (e : Bool) → (e || false) ≡ true → e ≡ true
@@ -191,7 +207,8 @@ module _ (k : Kind) (keeps : Keeps k) where
           or_false true r = refl
           or_false false r = r
 
-  pub after_release : (s : k.State) → k.Good s → (lines : List ℕ) → Freed s (fold (state_after_release k) s lines) lines
+  pub after_release : (s : k.State) → k.Good s → (lines : List ℕ)
+      → Freed s (fold (state_after_release k) s lines) lines
   after_release s good [] =
       record {
         good = good;
@@ -211,7 +228,8 @@ module _ (k : Kind) (keeps : Keeps k) where
         marks =
             λ at l.
             mark_rises (k.read_mark (state_after_release k s line) at)
-            (k.read_mark (fold (state_after_release k) (state_after_release k s line) lines) at) (k.read_mark s at)
+            (k.read_mark (fold (state_after_release k) (state_after_release k s line) lines) at)
+            (k.read_mark s at)
             (one.marks at l) (rest.marks at l);
         released_ones = λ at l h. freed at l one rest (eqb line at) refl h;
         others =
@@ -227,8 +245,10 @@ module _ (k : Kind) (keeps : Keeps k) where
     where
       freed :
           (at : ℕ) → at < line_limit → Freed s (state_after_release k s line) (line ∷ [])
-          → Freed (state_after_release k s line) (fold (state_after_release k) (state_after_release k s line) lines) lines
+          → Freed (state_after_release k s line)
+          (fold (state_after_release k) (state_after_release k s line) lines) lines
           → (b : Bool) → eqb line at ≡ b → (b || has at lines) ≡ true
           → k.owner (fold (state_after_release k) (state_after_release k s line) lines) at ≡ None
-      freed at l one rest true e h = rest.still_none at l (one.released_ones at l (ap (λ b. b || false) e))
+      freed at l one rest true e h =
+          rest.still_none at l (one.released_ones at l (ap (λ b. b || false) e))
       freed at l one rest false e h = rest.released_ones at l h

@@ -31,9 +31,9 @@ use Rattle.rules.specs.State.{Machine, idle_row, is_idle, is_waiting, warp_row_o
 use Rattle.rules.specs.declared.verdict.Verdict.{Verdict}
 use Rattle.rules.specs.declared.verdict.Verdict.TheVariants.{OwnLine, Gone as VerdictGone, MustWait}
 use Rattle.rules.specs.declared.verdict.Verdict.TheVariants.{GoOn}
-use Rattle.rules.specs.Access.{line_state, decide}
+use Rattle.rules.specs.Access.{line_state, access_verdict}
 use Rattle.rules.specs.Queue.{Policy, request_of, is_full}
-use Rattle.rules.specs.Refusals.{phase_refuses, refusal_fault, fault_unless, has_line, number_fault}
+use Rattle.rules.specs.Refusals.{phase_refusal, refusal_fault, fault_unless, has_line, number_fault}
 use Rattle.rules.specs.Refusals.{fault_of}
 use Rattle.rules.specs.Serving.{served_on_free_line, served_on_own_line}
 use Rattle.rules.specs.Steps.{ended_step, Step, with_log_written, step_by_verdict, access_step}
@@ -68,7 +68,7 @@ no_refusal (Some why) n e = let z : ◌≡◌ {A = ℕ} 0 1 = cc in absurd (omeg
 refused : {A : Type 0} {R : Type 0} (why : R) → Some why ≡ None → A
 refused why e = let z : ◌≡◌ {A = ℕ} 0 1 = cc in absurd (omega arith)
 
-begin_idle : (p : Phase) → phase_refuses p Begin ≡ None → is_idle p ≡ true
+begin_idle : (p : Phase) → phase_refusal p Begin ≡ None → is_idle p ≡ true
 begin_idle Idle e = refl
 begin_idle Open e = refused _ e
 begin_idle Waiting e = refused _ e
@@ -78,25 +78,25 @@ begin_idle (Settled outcome) e = refused _ e
 abbrev GoesOn : Phase → Type 0
 GoesOn p = (is_idle p ≡ false) × (is_waiting p ≡ false)
 
-load_open : (line : ℕ) (p : Phase) → phase_refuses p (Load line) ≡ None → GoesOn p
+load_open : (line : ℕ) (p : Phase) → phase_refusal p (Load line) ≡ None → GoesOn p
 load_open line Idle e = refused _ e
 load_open line Open e = (refl, refl)
 load_open line Waiting e = refused _ e
 load_open line (Settled outcome) e = refused _ e
 
-store_open : (line v : ℕ) (p : Phase) → phase_refuses p (Store line v) ≡ None → GoesOn p
+store_open : (line v : ℕ) (p : Phase) → phase_refusal p (Store line v) ≡ None → GoesOn p
 store_open line v Idle e = refused _ e
 store_open line v Open e = (refl, refl)
 store_open line v Waiting e = refused _ e
 store_open line v (Settled outcome) e = refused _ e
 
-commit_open : (p : Phase) → phase_refuses p Commit ≡ None → GoesOn p
+commit_open : (p : Phase) → phase_refusal p Commit ≡ None → GoesOn p
 commit_open Idle e = refused _ e
 commit_open Open e = (refl, refl)
 commit_open Waiting e = refused _ e
 commit_open (Settled outcome) e = refused _ e
 
-drop_open : (p : Phase) → phase_refuses p Drop ≡ None → GoesOn p
+drop_open : (p : Phase) → phase_refusal p Drop ≡ None → GoesOn p
 drop_open Idle e = refused _ e
 drop_open Open e = (refl, refl)
 drop_open Waiting e = refused _ e
@@ -118,10 +118,13 @@ module _ (k : Kind) (first : Lines) (keeps : Keeps k) (policy : Policy k) (E₀ 
       -- What a call leaves, and the ledger after it.
       abbrev Kept : Op → Step k → Type 0
       Kept op s =
-          Invariant k first E s.machine (fold ledger_after_settled (ledger_after_reply l w (warp_row_of m w).stamp op s.answer) s.settled)
+          Invariant k first E s.machine
+          (fold ledger_after_settled
+          (ledger_after_reply l w (warp_row_of m w).stamp op s.answer) s.settled)
 
       module _
-          (tx : Transaction) (mine : l.current w ≡ Some tx) (calm : is_waiting (warp_row_of m w).phase ≡ false)
+          (tx : Transaction) (mine : l.current w ≡ Some tx)
+          (calm : is_waiting (warp_row_of m w).phase ≡ false)
         where
           gone_keeps :
               (op : Op) (cause : Cause) (next : ℕ)
@@ -131,16 +134,20 @@ module _ (k : Kind) (first : Lines) (keeps : Keeps k) (policy : Policy k) (E₀ 
               (ends_keep k first keeps E m l I w tx mine next calm)
 
           accessed_keeps :
-              (line : ℕ) → line < line_limit → is_some (first line) ≡ true → (access : Access) (v : Verdict)
+              (line : ℕ) → line < line_limit → is_some (first line) ≡ true
+              → (access : Access) (v : Verdict)
               → Room access (warp_row_of m w)
-              → VerdictMeans (k.owner m.book line ≡ Some w) access (line_state k m.book line) (time_of m w) v
+              → VerdictMeans (k.owner m.book line ≡ Some w) access (line_state k m.book line)
+              (time_of m w) v
               → Kept (op_of access line) (step_by_verdict policy m w line access v)
           unfolding step_by_verdict served_on_free_line served_on_own_line
           accessed_keeps line low there Read OwnLine room owned =
               own_serving_keeps k first keeps E m l I w tx mine line low there Read room owned
           accessed_keeps line low there (Write value) OwnLine room owned =
-              own_serving_keeps k first keeps E m l I w tx mine line low there (Write value) room owned
-          accessed_keeps line low there access (VerdictGone cause next) room u = gone_keeps (op_of access line) cause next
+              own_serving_keeps k first keeps E m l I w tx mine line low there
+              (Write value) room owned
+          accessed_keeps line low there access (VerdictGone cause next) room u =
+              gone_keeps (op_of access line) cause next
           accessed_keeps line low there access MustWait room stall =
               waiting_keeps k first keeps E m l I w tx mine line low there access calm stall
           accessed_keeps line low there Read GoOn room go =
@@ -149,15 +156,18 @@ module _ (k : Kind) (first : Lines) (keeps : Keeps k) (policy : Policy k) (E₀ 
               serving_keeps k first keeps E m l I w tx mine line low there (Write value) go
 
           accesses_keeps :
-              (line : ℕ) → has_line m line ≡ true → (access : Access) → Room access (warp_row_of m w)
+              (line : ℕ) → has_line m line ≡ true → (access : Access)
+              → Room access (warp_row_of m w)
               → Kept (op_of access line) (access_step policy m w line access)
           accesses_keeps line h access room =
               let p = and_parts (ltb line line_limit) (is_some (m.lines line)) h in
               accessed_keeps line (ltb-true line line_limit p.0)
-              (sym (I.history.core.same_lines line) ∙ p.1) access (verdict_at policy m w line access) room
-              (verdict_with_room_means (k.owner m.book line ≡ Some w) access (line_state k m.book line) (time_of m w)
+              (sym (I.history.core.same_lines line) ∙ p.1) access
+              (verdict_at policy m w line access) room
+              (verdict_with_room_means (k.owner m.book line ≡ Some w) access
+              (line_state k m.book line) (time_of m w)
               (is_full policy.line_room policy.queue_room m.queue line) (warp_row_of m w).stamp
-              (decide access (line_state k m.book line) (time_of m w))
+              (access_verdict access (line_state k m.book line) (time_of m w))
               (decided_verdict_means access (line_state k m.book line) (time_of m w)))
 
           fetched_keeps : (outcome : Outcome) → Kept Fetch (fetched_step policy m w outcome)
@@ -168,19 +178,22 @@ module _ (k : Kind) (first : Lines) (keeps : Keeps k) (policy : Policy k) (E₀ 
 
           commit_keeps : Kept Commit (accepted_step policy m w Commit)
           commit_keeps =
-              ends_keeps k first keeps (with_committed l w) policy E₀ covers (with_log_written m w) w
-              (warp_row_of m w).stamp (commits_keep k first keeps E m l I w tx mine (warp_row_of m w).stamp calm)
+              ends_keeps k first keeps (with_committed l w) policy E₀ covers
+              (with_log_written m w) w
+              (warp_row_of m w).stamp
+              (commits_keep k first keeps E m l I w tx mine (warp_row_of m w).stamp calm)
 
           drop_keeps : Kept Drop (accepted_step policy m w Drop)
           drop_keeps =
-              ends_keeps k first keeps (without_current l w) policy E₀ covers m w (warp_row_of m w).stamp
+              ends_keeps k first keeps (without_current l w) policy E₀ covers m w
+              (warp_row_of m w).stamp
               (ends_keep k first keeps E m l I w tx mine (warp_row_of m w).stamp calm)
 
       its : is_idle (warp_row_of m w).phase ≡ false → (tx : Transaction) × (l.current w ≡ Some tx)
       its e = has_transaction (warp_row_of m w) (l.current w) (I.warp_rows w) e
 
       fetches_keeps :
-          (p : Phase) → (warp_row_of m w).phase ≡ p → phase_refuses p Fetch ≡ None
+          (p : Phase) → (warp_row_of m w).phase ≡ p → phase_refusal p Fetch ≡ None
           → Kept Fetch (fetch_step policy m w p)
       fetches_keeps Idle e r = I
       fetches_keeps Open e r = I
@@ -189,7 +202,7 @@ module _ (k : Kind) (first : Lines) (keeps : Keeps k) (policy : Policy k) (E₀ 
           let t = its (ap is_idle e) in fetched_keeps t.0 t.1 (ap is_waiting e) outcome
 
       accepted_keeps :
-          (op : Op) → w < length m.warp_rows → phase_refuses (warp_row_of m w).phase op ≡ None
+          (op : Op) → w < length m.warp_rows → phase_refusal (warp_row_of m w).phase op ≡ None
           → number_fault m w op ≡ None → Kept op (accepted_step policy m w op)
       accepted_keeps Begin low phase number =
           begin_keeps k first keeps E m l I w low (begin_idle (warp_row_of m w).phase phase)
@@ -219,7 +232,8 @@ module _ (k : Kind) (first : Lines) (keeps : Keeps k) (policy : Policy k) (E₀ 
     -- A call, refused or not.
     pub step_keeps :
         (m : Machine k) (l : Ledger) → Invariant k first E m l → (call : Call)
-        → Invariant k first E (step policy m call).machine (ledger_after_event l (event_of policy m call))
+        → Invariant k first E (step policy m call).machine
+        (ledger_after_event l (event_of policy m call))
     unfolding ledger_after_event
     step_keeps m l I call = by_fault (fault_of m call) refl
       where
@@ -227,20 +241,25 @@ module _ (k : Kind) (first : Lines) (keeps : Keeps k) (policy : Policy k) (E₀ 
             (o : Option Fault) → fault_of m call ≡ o
             → Invariant k first E (checked_step policy m call o).machine
             (fold ledger_after_settled
-            (ledger_after_reply l call.warp (warp_row_of m call.warp).stamp call.op (checked_step policy m call o).answer)
+            (ledger_after_reply l call.warp (warp_row_of m call.warp).stamp call.op
+            (checked_step policy m call o).answer)
             (checked_step policy m call o).settled)
         by_fault (Some fault) e = I
         by_fault None e =
             let a = neither_fault (fault_unless (ltb call.warp (length m.warp_rows)) _ _) _ e in
-            let b = neither_fault (refusal_fault (phase_refuses (warp_row_of m call.warp).phase call.op) call.warp) _ a.1 in
+            let b = neither_fault
+            (refusal_fault (phase_refusal (warp_row_of m call.warp).phase call.op) call.warp) _
+            a.1 in
             accepted_keeps m l I call.warp call.op
-            (ltb-true call.warp (length m.warp_rows) (test_holds (ltb call.warp (length m.warp_rows)) _ _ a.0))
-            (no_refusal (phase_refuses (warp_row_of m call.warp).phase call.op) call.warp b.0) b.1
+            (ltb-true call.warp (length m.warp_rows)
+            (test_holds (ltb call.warp (length m.warp_rows)) _ _ a.0))
+            (no_refusal (phase_refusal (warp_row_of m call.warp).phase call.op) call.warp b.0) b.1
 
     -- A run.
     pub run_keeps :
         (calls : List Call) (r : Run k) → Invariant k first E r.machine (ledger_of r.events)
-        → Invariant k first E (fold (run_with_call policy) r calls).machine (ledger_of (fold (run_with_call policy) r calls).events)
+        → Invariant k first E (fold (run_with_call policy) r calls).machine
+        (ledger_of (fold (run_with_call policy) r calls).events)
     unfolding run_with_call
     run_keeps [] r I = I
     run_keeps (call ∷ calls) r I =
@@ -253,7 +272,8 @@ module _ (k : Kind) (first : Lines) (keeps : Keeps k) (policy : Policy k) (E₀ 
 
 -- A new book has no owner.
 new_unowned :
-    (k : Kind) (keeps : Keeps k) (s : k.State) → k.Good s → k.latest s ≡ 0 → (line : ℕ) → line < line_limit
+    (k : Kind) (keeps : Keeps k) (s : k.State) → k.Good s → k.latest s ≡ 0 → (line : ℕ)
+    → line < line_limit
     → k.owner s line ≡ None
 new_unowned k keeps s good zero_latest line low =
     (keeps.tells s good line low).ownerless (free (is_reserved k s line) refl)
@@ -275,10 +295,13 @@ pub no_writer : (line i : ℕ) → is_written (transaction_named [] i).actions l
 no_writer line i e = both_ways false refl e
 
 pub new_keeps :
-    (k : Kind) (keeps : Keeps k) (E₀ : Type 0) (lines : Lines) (s : k.State) → k.Good s → (stamps : List ℕ)
-    → making_fault k s stamps ≡ None → Invariant k lines (λ v n. E₀) (new_machine k lines s stamps) new_ledger
+    (k : Kind) (keeps : Keeps k) (E₀ : Type 0) (lines : Lines) (s : k.State) → k.Good s
+    → (stamps : List ℕ)
+    → making_fault k s stamps ≡ None
+    → Invariant k lines (λ v n. E₀) (new_machine k lines s stamps) new_ledger
 new_keeps k keeps E₀ lines s good stamps e =
-    let a = neither_fault (fault_unless (ltb 0 (length stamps) && leb (length stamps) warp_limit) _ _) _ e in
+    let a = neither_fault
+    (fault_unless (ltb 0 (length stamps) && leb (length stamps) warp_limit) _ _) _ e in
     let b =
     and_parts (ltb 0 (length stamps)) (leb (length stamps) warp_limit)
     (test_holds (ltb 0 (length stamps) && leb (length stamps) warp_limit) _ _ a.0)
@@ -289,7 +312,8 @@ new_keeps k keeps E₀ lines s good stamps e =
     subst
     (λ o.
     Invariant k lines (λ v n. E₀)
-    (record { lines = lines; book = s; warp_rows = first_warp_rows o stamps; queue = [] }) new_ledger)
+    (record { lines = lines; book = s; warp_rows = first_warp_rows o stamps; queue = [] })
+    new_ledger)
     (sym e)
     (record {
       good = good;
@@ -324,7 +348,8 @@ new_keeps k keeps E₀ lines s good stamps e =
 
 -- A refused call changes neither the machine nor the ledger.
 pub refusal_changes_nothing :
-    (k : Kind) (policy : Policy k) (m : Machine k) (l : Ledger) (call : Call) (f : Fault) → fault_of m call ≡ Some f
+    (k : Kind) (policy : Policy k) (m : Machine k) (l : Ledger) (call : Call) (f : Fault)
+    → fault_of m call ≡ Some f
     → ((step policy m call).machine ≡ m) × (ledger_after_event l (event_of policy m call) ≡ l)
 unfolding ledger_after_event
 refusal_changes_nothing k policy m l call f e = (
@@ -332,22 +357,25 @@ refusal_changes_nothing k policy m l call f e = (
   ap
       (λ o.
       fold ledger_after_settled
-      (ledger_after_reply l call.warp (warp_row_of m call.warp).stamp call.op (checked_step policy m call o).answer)
+      (ledger_after_reply l call.warp (warp_row_of m call.warp).stamp call.op
+      (checked_step policy m call o).answer)
       (checked_step policy m call o).settled)
       e,
 )
 
 -- A machine that was refused when it was made has no warps, and no call changes it.
 no_warps_refuse :
-    (k : Kind) (m : Machine k) (call : Call) → m.warp_rows ≡ [] → (f : Fault) × (fault_of m call ≡ Some f)
+    (k : Kind) (m : Machine k) (call : Call) → m.warp_rows ≡ []
+    → (f : Fault) × (fault_of m call ≡ Some f)
 no_warps_refuse k m call none = (
   fault_in_call NoSuchWarp call.warp,
   ap
       (λ b.
       option_or (cond b None (Some (fault_in_call NoSuchWarp call.warp)))
-      (option_or (refusal_fault (phase_refuses (warp_row_of m call.warp).phase call.op) call.warp)
+      (option_or (refusal_fault (phase_refusal (warp_row_of m call.warp).phase call.op) call.warp)
       (number_fault m call.warp call.op)))
-      (le-ltb call.warp (length m.warp_rows) (let z : length m.warp_rows ≡ 0 = ap length none in omega arith)),
+      (le-ltb call.warp (length m.warp_rows)
+      (let z : length m.warp_rows ≡ 0 = ap length none in omega arith)),
 )
 
 pub refused_stays :
@@ -361,7 +389,8 @@ refused_stays k policy (call ∷ calls) r none e =
     let f = no_warps_refuse k r.machine call none in
     let kept = refusal_changes_nothing k policy r.machine (ledger_of r.events) call f.0 f.1 in
     let rest =
-    refused_stays k policy calls (run_with_call policy r call) (ap (λ (m : Machine k). m.warp_rows) kept.0 ∙ none)
+    refused_stays k policy calls (run_with_call policy r call)
+    (ap (λ (m : Machine k). m.warp_rows) kept.0 ∙ none)
     (fold_push ledger_after_event new_ledger r.events (event_of policy r.machine call) ∙ kept.1 ∙ e)
     in
     (rest.0 ∙ kept.0, rest.1)

@@ -14,21 +14,25 @@ use Rattle.rules.specs.Transactions.{Source, own_store, committed_store, initial
 use Rattle.rules.specs.Transactions.{Transaction, no_transaction, last_own_store, is_written}
 use Rattle.rules.specs.Transactions.{transaction_stores, transaction_named, writers}
 use Rattle.rules.specs.Transactions.{committed_source}
-use Rattle.rules.proofs.ListFacts.{filter_append, has_numbers_below, has_of_filter, last_push, last_is_in}
+use Rattle.rules.proofs.ListFacts.{filter_append, has_numbers_below, has_of_filter, last_push}
+use Rattle.rules.proofs.ListFacts.{last_is_in}
 use Rattle.rules.proofs.SerialAccount.{value_after_stores, written_at, source_value, writer}
-use Rattle.rules.proofs.SerialOrders.{key, key_of, Earlier, commits_seen, stamp_at, key_at, NamesWriter, IsRightSource}
+use Rattle.rules.proofs.SerialOrders.{key, key_of, Earlier, commits_seen, stamp_at, key_at}
+use Rattle.rules.proofs.SerialOrders.{NamesWriter, IsRightSource}
 use Rattle.rules.proofs.SerialOrders.{writer_below}
 use Rattle.rules.proofs.History.{Holding, Holder, Core, ReadNow}
 
 kept_same :
-    (t u : ℕ → Bool) (xs : List ℕ) → ((z : ℕ) → has z xs ≡ true → t z ≡ u z) → filter t xs ≡ filter u xs
+    (t u : ℕ → Bool) (xs : List ℕ) → ((z : ℕ) → has z xs ≡ true → t z ≡ u z)
+    → filter t xs ≡ filter u xs
 kept_same t u [] e = refl
 kept_same t u (x ∷ xs) e =
     ap (λ b. cond b (x ∷ filter t xs) (filter t xs)) (e x (here x))
     ∙ ap (λ l. cond (u x) (x ∷ l) l) (kept_same t u xs (λ z h. e z (there z (eqb x z) h)))
   where
     here : (y : ℕ) → has y (y ∷ xs) ≡ true
-    here y = Rattle.std.proofs.lemmas.Bool.or_left (eqb y y) (has y xs) (Rattle.std.proofs.lemmas.Bool.eq-eqb y y refl)
+    here y = Rattle.std.proofs.lemmas.Bool.or_left (eqb y y) (has y xs)
+        (Rattle.std.proofs.lemmas.Bool.eq-eqb y y refl)
 
     there : (z : ℕ) (b : Bool) → has z xs ≡ true → mathlib.Core.Bool.◌||◌ b (has z xs) ≡ true
     there z true h = refl
@@ -53,7 +57,8 @@ module _ (first : Lines) (txs : List Transaction) (tx : Transaction) where
   -- A writer is one of the earlier commits or the new one.
   pub writer_cases :
       (line j : ℕ) → writer first with_commit line j ≡ true
-      → ((j < n) × (writer first txs line j ≡ true)) ⊎ ((j ≡ n) × (is_written tx.actions line ≡ true))
+      → ((j < n) × (writer first txs line j ≡ true))
+      ⊎ ((j ≡ n) × (is_written tx.actions line ≡ true))
   writer_cases line j w = step (cases_lt j n)
     where
       low : j < suc n
@@ -61,8 +66,10 @@ module _ (first : Lines) (txs : List Transaction) (tx : Transaction) where
 
       step :
           (j < n) ⊎ (n ≤ j)
-          → ((j < n) × (writer first txs line j ≡ true)) ⊎ ((j ≡ n) × (is_written tx.actions line ≡ true))
-      step (inl l) = inl (l, ap (λ (t : Transaction). is_written t.actions line) (sym (named_old j l)) ∙ w)
+          → ((j < n) × (writer first txs line j ≡ true))
+          ⊎ ((j ≡ n) × (is_written tx.actions line ≡ true))
+      step (inl l) =
+          inl (l, ap (λ (t : Transaction). is_written t.actions line) (sym (named_old j l)) ∙ w)
       step (inr g) =
           let e : j ≡ n = omega (arith, low) in
           inr (
@@ -71,14 +78,17 @@ module _ (first : Lines) (txs : List Transaction) (tx : Transaction) where
                 ∙ ap (λ i. writer first with_commit line i) (sym e) ∙ w,
           )
 
-  pub writer_old : (line j : ℕ) → writer first txs line j ≡ true → writer first with_commit line j ≡ true
+  pub writer_old : (line j : ℕ) → writer first txs line j ≡ true
+      → writer first with_commit line j ≡ true
   writer_old line j w =
-      ap (λ (t : Transaction). is_written t.actions line) (named_old j (writer_below first txs line j w)) ∙ w
+      ap (λ (t : Transaction). is_written t.actions line)
+      (named_old j (writer_below first txs line j w)) ∙ w
 
   stamp_old : (j : ℕ) → j < n → stamp_at first with_commit j ≡ stamp_at first txs j
   stamp_old j l = ap (λ (t : Transaction). t.stamp) (named_old j l)
 
-  writers_more : (line : ℕ) → writers with_commit line ≡ writers txs line ++ cond (is_written tx.actions line) (n ∷ []) []
+  writers_more : (line : ℕ)
+      → writers with_commit line ≡ writers txs line ++ cond (is_written tx.actions line) (n ∷ []) []
   writers_more line =
       ap (λ z. filter (writer first with_commit line) (numbers_below z)) length_more
       ∙ filter_append (writer first with_commit line) (numbers_below n) (n ∷ [])
@@ -99,15 +109,20 @@ module _ (first : Lines) (txs : List Transaction) (tx : Transaction) where
       → source_value first with_commit line f ≡ source_value first txs line f
   found_old line own_store bad = absurd bad
   found_old line (committed_store j) w =
-      ap (λ (t : Transaction). last_own_store t.actions line) (named_old j (writer_below first txs line j w))
+      ap (λ (t : Transaction). last_own_store t.actions line)
+      (named_old j (writer_below first txs line j w))
   found_old line initial_memory u = refl
 
-  pub last_source_names_writer : (line : ℕ) → NamesWriter first txs (committed_source (last_of (writers txs line))) line
+  pub last_source_names_writer : (line : ℕ)
+      → NamesWriter first txs (committed_source (last_of (writers txs line))) line
   last_source_names_writer line = step (last_of (writers txs line)) refl
     where
-      step : (o : Option ℕ) → last_of (writers txs line) ≡ o → NamesWriter first txs (committed_source o) line
+      step : (o : Option ℕ) → last_of (writers txs line) ≡ o
+          → NamesWriter first txs (committed_source o) line
       step None e = tt
-      step (Some j) e = (has_of_filter (writer first txs line) j (numbers_below n) (last_is_in (writers txs line) j e)).1
+      step (Some j) e =
+          (has_of_filter (writer first txs line) j (numbers_below n)
+          (last_is_in (writers txs line) j e)).1
 
   commits_seen_low : (line : ℕ) (f : Source) → NamesWriter first txs f line → commits_seen f ≤ n
   commits_seen_low line own_store bad = absurd bad
@@ -117,9 +132,11 @@ module _ (first : Lines) (txs : List Transaction) (tx : Transaction) where
   -- A load that found the right store still has, if the new writer is later than it in logical
   -- time.
   pub right_source_with_commit :
-      (place place' stamp warp line v : ℕ) (f : Source) → IsRightSource first txs place stamp warp line v f
+      (place place' stamp warp line v : ℕ) (f : Source)
+      → IsRightSource first txs place stamp warp line v f
       → (place' ≡ place) ⊎ ((place ≡ n) × (place' ≡ suc n))
-      → (is_written tx.actions line ≡ true → (n ≡ place' → ⊥) → Earlier (key stamp warp) place' (key_of tx) n)
+      → (is_written tx.actions line ≡ true → (n ≡ place' → ⊥)
+      → Earlier (key stamp warp) place' (key_of tx) n)
       → IsRightSource first with_commit place' stamp warp line v f
   right_source_with_commit place place' stamp warp line v f r moved newer =
       record {
@@ -136,14 +153,17 @@ module _ (first : Lines) (txs : List Transaction) (tx : Transaction) where
 
       before_now :
           (j : ℕ) → j < commits_seen f
-          → ((j < n) × (writer first txs line j ≡ true)) ⊎ ((j ≡ n) × (is_written tx.actions line ≡ true))
+          → ((j < n) × (writer first txs line j ≡ true))
+          ⊎ ((j ≡ n) × (is_written tx.actions line ≡ true))
           → stamp_at first with_commit j < stamp
       before_now j l (inl p) = let a = r.before j p.1 l in let b = stamp_old j p.0 in omega arith
-      before_now j l (inr p) = let a = commits_seen_low line f r.names in let e = p.0 in absurd (omega arith)
+      before_now j l (inr p) = let a = commits_seen_low line f r.names in let e =
+          p.0 in absurd (omega arith)
 
       after_now :
           (j : ℕ) → commits_seen f ≤ j → (j ≡ place' → ⊥)
-          → ((j < n) × (writer first txs line j ≡ true)) ⊎ ((j ≡ n) × (is_written tx.actions line ≡ true))
+          → ((j < n) × (writer first txs line j ≡ true))
+          ⊎ ((j ≡ n) × (is_written tx.actions line ≡ true))
           → Earlier (key stamp warp) place' (key_at first with_commit j) j
       after_now j l d (inl p) =
           let old = r.after j p.1 l (apart moved) in
@@ -160,13 +180,15 @@ module _ (first : Lines) (txs : List Transaction) (tx : Transaction) where
           later (inl q) c = omega arith
           later (inr q) c = let a = q.0 in let b = p.0 in absurd (omega arith)
       after_now j l d (inr p) =
-          let e : key_at first with_commit j ≡ key_of tx = ap (key_at first with_commit) p.0 ∙ ap key_of named_new in
+          let e : key_at first with_commit j ≡ key_of tx = ap (key_at first with_commit) p.0
+          ∙ ap key_of named_new in
           let new = newer p.1 (λ q. d (p.0 ∙ q)) in
           let same = p.0 in
           (omega (arith, new.0), λ c. let z = new.1 (omega arith) in omega arith)
 
 module _
-    (k : Kind) (first : Lines) (txs : List Transaction) (H : Holding) (lines : Lines) (s : k.State) (tx : Transaction)
+    (k : Kind) (first : Lines) (txs : List Transaction) (H : Holding) (lines : Lines) (s : k.State)
+    (tx : Transaction)
   where
     -- What holds of a line that a transaction is about to commit a store to. The line is released
     -- already.
@@ -180,12 +202,14 @@ module _
     pub core_with_commit :
         Core k first txs H lines s → tx.warp < 32
         → ((line : ℕ) → is_written tx.actions line ≡ true → ReadyToCommit line)
-        → Core k first (with_commit first txs tx) H (lines_after_stores lines (transaction_stores tx.actions)) s
+        → Core k first (with_commit first txs tx) H
+        (lines_after_stores lines (transaction_stores tx.actions)) s
     core_with_commit c low ready =
         record {
           sorted =
               λ line i j l wi wj.
-              sorted_now line i j l (writer_cases first txs tx line i wi) (writer_cases first txs tx line j wj);
+              sorted_now line i j l (writer_cases first txs tx line i wi)
+              (writer_cases first txs tx line j wj);
           warps = warps_now;
           line_low = λ line i w. low_now line i (writer_cases first txs tx line i w);
           there = λ line i w. there_now line i (writer_cases first txs tx line i w);
@@ -201,14 +225,16 @@ module _
             ((j < length txs) × (writer first txs line j ≡ true))
             ⊎ ((j ≡ length txs) × (is_written tx.actions line ≡ true))
 
-        stamp_new : (j : ℕ) → j ≡ length txs → stamp_at first (with_commit first txs tx) j ≡ tx.stamp
+        stamp_new : (j : ℕ) → j ≡ length txs
+            → stamp_at first (with_commit first txs tx) j ≡ tx.stamp
         stamp_new j e =
             ap (stamp_at first (with_commit first txs tx)) e
             ∙ ap (λ (t : Transaction). t.stamp) (named_new first txs tx)
 
         sorted_now :
             (line i j : ℕ) → i < j → New line i → New line j
-            → stamp_at first (with_commit first txs tx) i < stamp_at first (with_commit first txs tx) j
+            → stamp_at first (with_commit first txs tx) i < stamp_at first
+            (with_commit first txs tx) j
         sorted_now line i j l (inl p) (inl q) =
             let a = c.sorted line i j l p.1 q.1 in
             let b = stamp_old first txs tx i p.0 in
@@ -222,15 +248,20 @@ module _
         sorted_now line i j l (inr p) (inl q) = let a = p.0 in let b = q.0 in absurd (omega arith)
         sorted_now line i j l (inr p) (inr q) = let a = p.0 in let b = q.0 in absurd (omega arith)
 
-        warps_now : (i : ℕ) → i < length (with_commit first txs tx) → (transaction_named (with_commit first txs tx) i).warp < 32
+        warps_now : (i : ℕ) → i < length (with_commit first txs tx)
+            → (transaction_named (with_commit first txs tx) i).warp < 32
         warps_now i l = step (cases_lt i (length txs))
           where
-            step : (i < length txs) ⊎ (length txs ≤ i) → (transaction_named (with_commit first txs tx) i).warp < 32
-            step (inl p) = subst (λ (t : Transaction). t.warp < 32) (sym (named_old first txs tx i p)) (c.warps i p)
+            step : (i < length txs) ⊎ (length txs ≤ i)
+                → (transaction_named (with_commit first txs tx) i).warp < 32
+            step (inl p) =
+                subst (λ (t : Transaction). t.warp < 32) (sym (named_old first txs tx i p))
+                (c.warps i p)
             step (inr p) =
                 let e : i ≡ length txs = omega (arith, length_more first txs tx) in
                 subst (λ (t : Transaction). t.warp < 32)
-                (sym (ap (transaction_named (with_commit first txs tx)) e ∙ named_new first txs tx)) low
+                (sym (ap (transaction_named (with_commit first txs tx)) e ∙ named_new first txs tx))
+                low
 
         low_now : (line i : ℕ) → New line i → line < line_limit
         low_now line i (inl p) = c.line_low line i p.1
@@ -240,7 +271,8 @@ module _
         there_now line i (inl p) = c.there line i p.1
         there_now line i (inr p) = sym (c.same_lines line) ∙ (ready line p.1).there
 
-        passes_now : (line i : ℕ) → New line i → stamp_at first (with_commit first txs tx) i < k.write_stamp s line
+        passes_now : (line i : ℕ) → New line i
+            → stamp_at first (with_commit first txs tx) i < k.write_stamp s line
         passes_now line i (inl p) =
             let a = c.passes line i p.1 in let b = stamp_old first txs tx i p.0 in omega arith
         passes_now line i (inr p) =
@@ -251,9 +283,12 @@ module _
         still (Some v) None = refl
         still (Some v) (Some u) = refl
 
-        still_there : (line : ℕ) → is_some (lines_after_stores lines (transaction_stores tx.actions) line) ≡ is_some (lines line)
+        still_there : (line : ℕ)
+            → is_some (lines_after_stores lines (transaction_stores tx.actions) line) ≡ is_some
+            (lines line)
         still_there line =
-            ap is_some (written_at lines tx.actions line) ∙ still (last_own_store tx.actions line) (lines line)
+            ap is_some (written_at lines tx.actions line)
+            ∙ still (last_own_store tx.actions line) (lines line)
 
         put_over : (v : ℕ) (p : Option ℕ) → is_some p ≡ true → option_map (λ _. v) p ≡ Some v
         put_over v None h = absurd (both_ways false refl h)
@@ -262,13 +297,18 @@ module _
         last_now :
             (line : ℕ) (o : Option ℕ) → last_own_store tx.actions line ≡ o
             → lines_after_stores lines (transaction_stores tx.actions) line
-            ≡ source_value first (with_commit first txs tx) line (committed_source (last_of (writers (with_commit first txs tx) line)))
+            ≡ source_value first (with_commit first txs tx) line
+            (committed_source (last_of (writers (with_commit first txs tx) line)))
         last_now line None e =
-            written_at lines tx.actions line ∙ ap (λ p. value_after_stores p (lines line)) e ∙ c.last line
-            ∙ sym (found_old first txs tx line (committed_source (last_of (writers txs line))) (last_source_names_writer first txs tx line))
-            ∙ ap (λ ws. source_value first (with_commit first txs tx) line (committed_source (last_of ws)))
+            written_at lines tx.actions line ∙ ap (λ p. value_after_stores p (lines line)) e
+            ∙ c.last line
+            ∙ sym (found_old first txs tx line (committed_source (last_of (writers txs line)))
+            (last_source_names_writer first txs tx line))
+            ∙ ap (λ ws. source_value first (with_commit first txs tx) line
+            (committed_source (last_of ws)))
             (sym
-            (writers_more first txs tx line ∙ ap (λ p. writers txs line ++ cond (is_some p) (length txs ∷ []) []) e
+            (writers_more first txs tx line
+            ∙ ap (λ p. writers txs line ++ cond (is_some p) (length txs ∷ []) []) e
             ∙ append-nil (writers txs line)))
         last_now line (Some v) e =
             written_at lines tx.actions line ∙ ap (λ p. value_after_stores p (lines line)) e
@@ -278,12 +318,14 @@ module _
             ∙ ap (λ o. source_value first (with_commit first txs tx) line (committed_source o))
             (sym
             (ap last_of
-            (writers_more first txs tx line ∙ ap (λ p. writers txs line ++ cond (is_some p) (length txs ∷ []) []) e)
+            (writers_more first txs tx line
+            ∙ ap (λ p. writers txs line ++ cond (is_some p) (length txs ∷ []) []) e)
             ∙ last_push (writers txs line) (length txs)))
 
         holder_now :
             (h line t : ℕ) → H h line ≡ Some t
-            → Holder k first (with_commit first txs tx) (lines_after_stores lines (transaction_stores tx.actions)) s h line t
+            → Holder k first (with_commit first txs tx)
+            (lines_after_stores lines (transaction_stores tx.actions)) s h line t
         holder_now h line t e =
             let old = c.holder h line t e in
             record {
@@ -297,19 +339,22 @@ module _
           where
             above_now : (j : ℕ) → New line j → stamp_at first (with_commit first txs tx) j < t
             above_now j (inl p) =
-                let a = (c.holder h line t e).above j p.1 in let b = stamp_old first txs tx j p.0 in omega arith
+                let a = (c.holder h line t e).above j p.1 in let b = stamp_old first txs tx j p.0
+                in omega arith
             above_now j (inr p) = absurd ((ready line p.1).nobody h t e)
 
     -- What holds of a load still holds after the commit.
     pub read_with_commit :
-        (place place' stamp warp line v : ℕ) (f : Source) → ReadNow k first txs H s place stamp warp line v f
+        (place place' stamp warp line v : ℕ) (f : Source)
+        → ReadNow k first txs H s place stamp warp line v f
         → (place' ≡ place) ⊎ ((place ≡ length txs) × (place' ≡ suc (length txs)))
         → (is_written tx.actions line ≡ true → (length txs ≡ place' → ⊥)
         → Earlier (key stamp warp) place' (key_of tx) (length txs))
         → ReadNow k first (with_commit first txs tx) H s place' stamp warp line v f
     read_with_commit place place' stamp warp line v f r moved newer =
         record {
-          right = right_source_with_commit first txs tx place place' stamp warp line v f r.right moved newer;
+          right = right_source_with_commit first txs tx place place' stamp warp line v f r.right
+              moved newer;
           line_low = r.line_low;
           marked = r.marked;
           held = r.held;

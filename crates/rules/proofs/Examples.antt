@@ -12,7 +12,7 @@ use Rattle.rules.specs.Logs.{log_entry}
 use Rattle.rules.specs.State.{Machine, warp_row_of}
 use Rattle.rules.specs.Queue.{request_of}
 use Rattle.rules.specs.Serving.{served_on_free_line}
-use Rattle.rules.specs.Ending.{after_withdrawal, after_settling, after_try, after_turn_with}
+use Rattle.rules.specs.Ending.{after_withdrawal, after_settling, after_retry, after_turn_with}
 use Rattle.rules.specs.Ending.{after_turns, without_lines, after_giving_up, after_end}
 use Rattle.rules.specs.Steps.{step_by_verdict, with_request_queued, fetched_step}
 use Rattle.rules.specs.Runs.{run_with_call}
@@ -49,7 +49,9 @@ seven_nine : ◌≡◌ {A = Option ℕ} (Some 7) (Some 9) → ⊥
 seven_nine e = let z : ◌≡◌ {A = ℕ} 7 9 = cc in omega arith
 
 pub settled_load_found : SettledLoadSeesCommit
-unfolding run_with_call step_by_verdict served_on_free_line after_withdrawal after_settling after_try after_turn_with after_turns without_lines after_giving_up after_end with_request_queued fetched_step ledger_after_event
+unfolding run_with_call step_by_verdict served_on_free_line after_withdrawal after_settling
+    after_retry after_turn_with after_turns without_lines after_giving_up after_end
+    with_request_queued fetched_step ledger_after_event
 settled_load_found = refl
 
 -- The account before any transaction is executed alone.
@@ -58,17 +60,22 @@ nothing = record { loads = λ n. []; last_values = word_lines (7 ∷ []); line_w
 
 -- A transaction's loads get the same alone as in the run.
 abbrev SameLoads : List Transaction → Lines → List ℕ → ℕ → Type 0
-SameLoads txs memory order n = (account_of txs memory).loads n ≡ (serial_account (word_lines (7 ∷ [])) txs order).loads n
+SameLoads txs memory order n =
+    (account_of txs memory).loads n ≡ (serial_account (word_lines (7 ∷ [])) txs order).loads n
 
 -- What is shown of transactions and a memory that are written out holds of the run that gives them.
 run_agrees :
-    (s : Sample) (txs : List Transaction) (memory : Lines) (a b : ℕ) → sample_commits s ≡ txs → length txs ≡ 2
-    → (sample_run s).machine.lines ≡ memory → TransactionsAgreeInOneOrder (word_lines s.values) txs memory a b → RunAgreesInOneOrder s a b
+    (s : Sample) (txs : List Transaction) (memory : Lines) (a b : ℕ) → sample_commits s ≡ txs
+    → length txs ≡ 2
+    → (sample_run s).machine.lines ≡ memory
+    → TransactionsAgreeInOneOrder (word_lines s.values) txs memory a b
+    → RunAgreesInOneOrder s a b
 run_agrees s txs memory a b e n m h =
     record {
       commits_two = ap length e ∙ n;
       apart =
-          subst (λ x. TransactionsAgreeInOneOrder (word_lines s.values) (sample_commits s) x a b) (sym m)
+          subst (λ x. TransactionsAgreeInOneOrder (word_lines s.values) (sample_commits s) x a b)
+          (sym m)
           (subst (λ x. TransactionsAgreeInOneOrder (word_lines s.values) x memory a b) (sym e) h);
     }
 
@@ -82,14 +89,17 @@ abbrev two_writers_memory : Lines
 two_writers_memory = lines_with (lines_with (word_lines (7 ∷ [])) 0 8) 0 9
 
 two_writers_commits : sample_commits two_writers ≡ two_writers_txs
-unfolding run_with_call step_by_verdict served_on_free_line after_turns without_lines after_giving_up after_end ledger_after_event
+unfolding run_with_call step_by_verdict served_on_free_line after_turns without_lines
+    after_giving_up after_end ledger_after_event
 two_writers_commits = refl
 
 two_writers_leaves : (sample_run two_writers).machine.lines ≡ two_writers_memory
-unfolding run_with_call step_by_verdict served_on_free_line after_turns without_lines after_giving_up after_end ledger_after_event
+unfolding run_with_call step_by_verdict served_on_free_line after_turns without_lines
+    after_giving_up after_end ledger_after_event
 two_writers_leaves = refl
 
-two_writers_case : TransactionsAgreeInOneOrder (word_lines (7 ∷ [])) two_writers_txs two_writers_memory 0 1
+two_writers_case :
+    TransactionsAgreeInOneOrder (word_lines (7 ∷ [])) two_writers_txs two_writers_memory 0 1
 unfolding account_after
 two_writers_case =
     record {
@@ -97,7 +107,8 @@ two_writers_case =
       in_time = refl;
       agrees =
           record {
-            same_loads = for_each_of_two (SameLoads two_writers_txs two_writers_memory (0 ∷ 1 ∷ [])) refl refl;
+            same_loads = for_each_of_two (SameLoads two_writers_txs two_writers_memory (0 ∷ 1 ∷ []))
+                refl refl;
             same_values = λ line. refl;
             same_writers =
                 λ line.
@@ -120,20 +131,24 @@ two_writers_apart =
 abbrev writer_reader_txs : List Transaction
 writer_reader_txs =
     record { stamp = 0; warp = 0; actions = stored (log_entry 0 8) ∷ [] }
-    ∷ record { stamp = 5; warp = 1; actions = loaded (load_action 0 8 (committed_store 0)) ∷ [] } ∷ []
+    ∷ record { stamp = 5; warp = 1; actions = loaded (load_action 0 8 (committed_store 0)) ∷ [] }
+    ∷ []
 
 abbrev writer_reader_memory : Lines
 writer_reader_memory = lines_with (word_lines (7 ∷ [])) 0 8
 
 writer_reader_commits : sample_commits writer_reader ≡ writer_reader_txs
-unfolding run_with_call step_by_verdict served_on_free_line after_turns without_lines after_giving_up after_end ledger_after_event
+unfolding run_with_call step_by_verdict served_on_free_line after_turns without_lines
+    after_giving_up after_end ledger_after_event
 writer_reader_commits = refl
 
 writer_reader_leaves : (sample_run writer_reader).machine.lines ≡ writer_reader_memory
-unfolding run_with_call step_by_verdict served_on_free_line after_turns without_lines after_giving_up after_end ledger_after_event
+unfolding run_with_call step_by_verdict served_on_free_line after_turns without_lines
+    after_giving_up after_end ledger_after_event
 writer_reader_leaves = refl
 
-writer_reader_case : TransactionsAgreeInOneOrder (word_lines (7 ∷ [])) writer_reader_txs writer_reader_memory 0 1
+writer_reader_case :
+    TransactionsAgreeInOneOrder (word_lines (7 ∷ [])) writer_reader_txs writer_reader_memory 0 1
 unfolding account_after
 writer_reader_case =
     record {
@@ -141,7 +156,8 @@ writer_reader_case =
       in_time = refl;
       agrees =
           record {
-            same_loads = for_each_of_two (SameLoads writer_reader_txs writer_reader_memory (0 ∷ 1 ∷ [])) refl refl;
+            same_loads = for_each_of_two
+                (SameLoads writer_reader_txs writer_reader_memory (0 ∷ 1 ∷ [])) refl refl;
             same_values = λ line. refl;
             same_writers =
                 λ line.
@@ -167,14 +183,17 @@ abbrev reader_writer_memory : Lines
 reader_writer_memory = lines_with (word_lines (7 ∷ [])) 0 8
 
 reader_writer_commits : sample_commits reader_writer ≡ reader_writer_txs
-unfolding run_with_call step_by_verdict served_on_free_line after_turns without_lines after_giving_up after_end ledger_after_event
+unfolding run_with_call step_by_verdict served_on_free_line after_turns without_lines
+    after_giving_up after_end ledger_after_event
 reader_writer_commits = refl
 
 reader_writer_leaves : (sample_run reader_writer).machine.lines ≡ reader_writer_memory
-unfolding run_with_call step_by_verdict served_on_free_line after_turns without_lines after_giving_up after_end ledger_after_event
+unfolding run_with_call step_by_verdict served_on_free_line after_turns without_lines
+    after_giving_up after_end ledger_after_event
 reader_writer_leaves = refl
 
-reader_writer_case : TransactionsAgreeInOneOrder (word_lines (7 ∷ [])) reader_writer_txs reader_writer_memory 1 0
+reader_writer_case :
+    TransactionsAgreeInOneOrder (word_lines (7 ∷ [])) reader_writer_txs reader_writer_memory 1 0
 unfolding account_after
 reader_writer_case =
     record {
@@ -182,7 +201,8 @@ reader_writer_case =
       in_time = refl;
       agrees =
           record {
-            same_loads = for_each_of_two (SameLoads reader_writer_txs reader_writer_memory (1 ∷ 0 ∷ [])) refl refl;
+            same_loads = for_each_of_two
+                (SameLoads reader_writer_txs reader_writer_memory (1 ∷ 0 ∷ [])) refl refl;
             same_values = λ line. refl;
             same_writers =
                 λ line.
@@ -208,14 +228,17 @@ abbrev same_stamp_memory : Lines
 same_stamp_memory = lines_with (word_lines (7 ∷ [])) 0 9
 
 same_stamp_commits : sample_commits same_stamp ≡ same_stamp_txs
-unfolding run_with_call step_by_verdict served_on_free_line after_turns without_lines after_giving_up after_end ledger_after_event
+unfolding run_with_call step_by_verdict served_on_free_line after_turns without_lines
+    after_giving_up after_end ledger_after_event
 same_stamp_commits = refl
 
 same_stamp_leaves : (sample_run same_stamp).machine.lines ≡ same_stamp_memory
-unfolding run_with_call step_by_verdict served_on_free_line after_turns without_lines after_giving_up after_end ledger_after_event
+unfolding run_with_call step_by_verdict served_on_free_line after_turns without_lines
+    after_giving_up after_end ledger_after_event
 same_stamp_leaves = refl
 
-same_stamp_case : TransactionsAgreeInOneOrder (word_lines (7 ∷ [])) same_stamp_txs same_stamp_memory 0 1
+same_stamp_case :
+    TransactionsAgreeInOneOrder (word_lines (7 ∷ [])) same_stamp_txs same_stamp_memory 0 1
 unfolding account_after
 same_stamp_case =
     record {
@@ -223,7 +246,8 @@ same_stamp_case =
       in_time = refl;
       agrees =
           record {
-            same_loads = for_each_of_two (SameLoads same_stamp_txs same_stamp_memory (0 ∷ 1 ∷ [])) refl refl;
+            same_loads = for_each_of_two (SameLoads same_stamp_txs same_stamp_memory (0 ∷ 1 ∷ []))
+                refl refl;
             same_values = λ line. refl;
             same_writers =
                 λ line.
@@ -326,23 +350,30 @@ chain_of_three = onward waits_3 (onward waits_2 (onward waits_1 (free free_0)))
 
 -- A holder whose request was aborted keeps its stamp until it fetches the outcome.
 holder_ends : (v : ℕ) → 4 ≤ v → (sample_ledger lost_holder).current v ≡ None
-unfolding run_with_call step_by_verdict served_on_free_line after_withdrawal after_settling after_try after_turn_with after_turns without_lines after_giving_up after_end with_request_queued ledger_after_event
+unfolding run_with_call step_by_verdict served_on_free_line after_withdrawal after_settling
+    after_retry after_turn_with after_turns without_lines after_giving_up after_end
+    with_request_queued ledger_after_event
 holder_ends v high = grind (arith, nat_tests)
 
 kept_3 : WaitsFor (sample_run lost_holder).machine (sample_ledger lost_holder) 3 2
-unfolding run_with_call step_by_verdict served_on_free_line after_withdrawal after_settling after_try after_turn_with after_turns without_lines after_giving_up after_end with_request_queued ledger_after_event
+unfolding run_with_call step_by_verdict served_on_free_line after_withdrawal after_settling
+    after_retry after_turn_with after_turns without_lines after_giving_up after_end
+    with_request_queued ledger_after_event
 kept_3 =
     record {
       waiting = refl;
       request = record { warp = 3; line = 1; access = Read };
       requested = refl;
       held = (record { stamp = 5; warp = 2; actions = stored (log_entry 1 2) ∷ [] }, refl, refl);
-      only = only_holder (sample_ledger lost_holder) 1 2 (omega arith) holder_ends refl refl refl refl;
+      only = only_holder (sample_ledger lost_holder) 1 2
+          (omega arith) holder_ends refl refl refl refl;
       falls = lit< tt;
     }
 
 free_2 : is_waiting_now (sample_run lost_holder).machine 2 ≡ false
-unfolding run_with_call step_by_verdict served_on_free_line after_withdrawal after_settling after_try after_turn_with after_turns without_lines after_giving_up after_end with_request_queued
+unfolding run_with_call step_by_verdict served_on_free_line after_withdrawal after_settling
+    after_retry after_turn_with after_turns without_lines after_giving_up after_end
+    with_request_queued
 free_2 = refl
 
 pub stamp_kept : StampKeptUntilFetched
@@ -354,7 +385,8 @@ no_way_on :
     (m : Machine exact) (l : Ledger) (w v steps : ℕ) (r : Request) → is_waiting_now m w ≡ true
     → request_of m.queue w ≡ Some r → IsHolder l r.line v
     → (warp_row_of m w).stamp ≤ (warp_row_of m v).stamp → Leads m l w steps → ⊥
-no_way_on m l w v steps r with_request_queued asks holds above (free e) = both_ways (is_waiting_now m w) e with_request_queued
+no_way_on m l w v steps r with_request_queued asks holds above (free e) =
+    both_ways (is_waiting_now m w) e with_request_queued
 no_way_on m l w v steps r with_request_queued asks holds above (onward {h = h} s rest) =
     let same : s.request ≡ r = cc (asks, s.requested) in
     let there : v ≡ h = s.only v (subst (λ (q : Request). IsHolder l q.line v) (sym same) holds) in
@@ -364,25 +396,36 @@ no_way_on m l w v steps r with_request_queued asks holds above (onward {h = h} s
     omega arith
 
 early_waits : is_waiting_now (wrong_run lost_holder).machine 3 ≡ true
-unfolding run_with_call step_by_verdict served_on_free_line after_withdrawal after_settling after_try after_turn_with after_turns without_lines after_giving_up after_end with_request_queued
+unfolding run_with_call step_by_verdict served_on_free_line after_withdrawal after_settling
+    after_retry after_turn_with after_turns without_lines after_giving_up after_end
+    with_request_queued
 early_waits = refl
 
 early_asks :
-    request_of (wrong_run lost_holder).machine.queue 3 ≡ Some (record { warp = 3; line = 1; access = Read })
-unfolding run_with_call step_by_verdict served_on_free_line after_withdrawal after_settling after_try after_turn_with after_turns without_lines after_giving_up after_end with_request_queued
+    request_of (wrong_run lost_holder).machine.queue 3 ≡ Some
+    (record { warp = 3; line = 1; access = Read })
+unfolding run_with_call step_by_verdict served_on_free_line after_withdrawal after_settling
+    after_retry after_turn_with after_turns without_lines after_giving_up after_end
+    with_request_queued
 early_asks = refl
 
 early_holds : IsHolder (ledger_of (wrong_run lost_holder).events) 1 2
-unfolding run_with_call step_by_verdict served_on_free_line after_withdrawal after_settling after_try after_turn_with after_turns without_lines after_giving_up after_end with_request_queued ledger_after_event
+unfolding run_with_call step_by_verdict served_on_free_line after_withdrawal after_settling
+    after_retry after_turn_with after_turns without_lines after_giving_up after_end
+    with_request_queued ledger_after_event
 early_holds = (record { stamp = 5; warp = 2; actions = stored (log_entry 1 2) ∷ [] }, refl, refl)
 
 early_stamps :
-    (warp_row_of (wrong_run lost_holder).machine 3).stamp ≤ (warp_row_of (wrong_run lost_holder).machine 2).stamp
-unfolding run_with_call step_by_verdict served_on_free_line after_withdrawal after_settling after_try after_turn_with after_turns without_lines after_giving_up after_end with_request_queued
+    (warp_row_of (wrong_run lost_holder).machine 3).stamp ≤
+    (warp_row_of (wrong_run lost_holder).machine 2).stamp
+unfolding run_with_call step_by_verdict served_on_free_line after_withdrawal after_settling
+    after_retry after_turn_with after_turns without_lines after_giving_up after_end
+    with_request_queued
 early_stamps = lit≤ tt
 
 pub stamp_taken_early : EarlyStampBreaksWaits
 stamp_taken_early h =
     let r = h 3 early_waits in
     no_way_on (wrong_run lost_holder).machine (ledger_of (wrong_run lost_holder).events) 3 2 r.0
-    (record { warp = 3; line = 1; access = Read }) early_waits early_asks early_holds early_stamps r.1
+    (record { warp = 3; line = 1; access = Read }) early_waits early_asks early_holds early_stamps
+    r.1

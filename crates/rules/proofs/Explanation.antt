@@ -42,7 +42,8 @@ count_inserted before n z (x ∷ xs) = step (before n x) (count_inserted before 
     step false h = omega arith
 
 count_sorted :
-    (before : ℕ → ℕ → Bool) (z : ℕ) (ns : List ℕ) → occurrences z (sorted before ns) ≡ occurrences z ns
+    (before : ℕ → ℕ → Bool) (z : ℕ) (ns : List ℕ)
+    → occurrences z (sorted before ns) ≡ occurrences z ns
 unfolding sorted
 count_sorted before z [] = refl
 count_sorted before z (n ∷ ns) =
@@ -62,7 +63,8 @@ has_inserted before n z xs =
 count_numbers_below : (z n : ℕ) → occurrences z (numbers_below n) ≡ cond (ltb z n) 1 0
 count_numbers_below z zero = grind (arith, nat_tests)
 count_numbers_below z (suc n) =
-    count_append z (numbers_below n) (n ∷ []) ∙ ap (λ c. c + (cond (eqb n z) 1 0 + 0)) (count_numbers_below z n)
+    count_append z (numbers_below n) (n ∷ [])
+    ∙ ap (λ c. c + (cond (eqb n z) 1 0 + 0)) (count_numbers_below z n)
     ∙ one_more z n
   where
     one_more : (z n : ℕ) → cond (ltb z n) 1 0 + (cond (eqb n z) 1 0 + 0) ≡ cond (ltb z (suc n)) 1 0
@@ -89,12 +91,14 @@ module _ (before : ℕ → ℕ → Bool) (strict : Strict before) where
           ⊎_elim (λ q. absurd (both_ways (before y x) p (strict.onward y n x q first))) (λ q. q)
           (cases_Bool (before y n))
 
-      later : before n x ≡ true → (y : ℕ) → (eqb x y ≡ true) ⊎ (has y xs ≡ true) → before y n ≡ false
+      later : before n x ≡ true → (y : ℕ) → (eqb x y ≡ true) ⊎ (has y xs ≡ true)
+          → before y n ≡ false
       later first y (inl p) =
           not_n first y (ap (λ z. before z x) (sym (eqb-true x y p)) ∙ strict.never_itself x)
       later first y (inr p) = not_n first y (h.0 y p)
 
-      behind : before n x ≡ false → (y : ℕ) → (eqb n y ≡ true) ⊎ (has y xs ≡ true) → before y x ≡ false
+      behind : before n x ≡ false → (y : ℕ) → (eqb n y ≡ true) ⊎ (has y xs ≡ true)
+          → before y x ≡ false
       behind last y (inl p) = ap (λ z. before z x) (sym (eqb-true n y p)) ∙ last
       behind last y (inr p) = h.0 y p
 
@@ -153,10 +157,12 @@ time_is_strict : (txs : List Transaction) → Strict (is_earlier txs)
 unfolding key_before
 time_is_strict txs =
     record {
-      never_itself = λ a. key_itself (transaction_named txs a).stamp (transaction_named txs a).warp a;
+      never_itself =
+          λ a. key_itself (transaction_named txs a).stamp (transaction_named txs a).warp a;
       onward =
           λ a b c.
-          key_onward (transaction_named txs a).stamp (transaction_named txs a).warp a (transaction_named txs b).stamp (transaction_named txs b).warp b
+          key_onward (transaction_named txs a).stamp (transaction_named txs a).warp a
+          (transaction_named txs b).stamp (transaction_named txs b).warp b
           (transaction_named txs c).stamp (transaction_named txs c).warp c;
     }
 
@@ -165,7 +171,8 @@ in_time : List Transaction → List ℕ
 in_time txs = sorted (is_earlier txs) (numbers_below (length txs))
 
 pub some_logical_order :
-    (txs : List Transaction) → (order : List ℕ) × EachOnce order (length txs) × IsInLogicalOrder txs order
+    (txs : List Transaction)
+    → (order : List ℕ) × EachOnce order (length txs) × IsInLogicalOrder txs order
 unfolding in_time
 some_logical_order txs = (
   in_time txs,
@@ -178,15 +185,21 @@ some_logical_order txs = (
   where
     once : EachOnce (in_time txs) (length txs)
     once name =
-        count_sorted (is_earlier txs) name (numbers_below (length txs)) ∙ count_numbers_below name (length txs)
+        count_sorted (is_earlier txs) name (numbers_below (length txs))
+        ∙ count_numbers_below name (length txs)
 
     stands_there : (a : ℕ) → a < length txs → has a (in_time txs) ≡ true
     stands_there a p =
-        has_sorted (is_earlier txs) a (numbers_below (length txs)) ∙ has_numbers_below a (length txs) ∙ lt-ltb a (length txs) p
+        has_sorted (is_earlier txs) a (numbers_below (length txs))
+        ∙ has_numbers_below a (length txs) ∙ lt-ltb a (length txs) p
 
 -- So the law of accounts gives an order that explains the run.
 pub law_of_explanation : (k : Kind) → LawOfAccounts k → LawOfExplanation k
 law_of_explanation k accounts keeps policy lines book good stamps calls =
     let r = run policy (new_machine k lines book stamps) calls in
-    let found = some_logical_order (ledger_of r.events).committed in
-    (found.0, found.1, (accounts keeps policy lines book good stamps calls found.0 found.1).1 found.2)
+    let found = some_logical_order (ledger_of r.events).committed in (
+      found.0,
+      found.1,
+      (accounts keeps policy lines book good stamps calls found.0 found.1).1
+          found.2,
+    )

@@ -24,7 +24,8 @@ pub mark_rises : (a b c : Time) → earlier a c ≡ false → earlier b a ≡ fa
 mark_rises a b c p q = grind (arith, nat_tests)
 
 pub key_rises :
-    (s w t v : ℕ) (m : Time) → w < 32 → earlier m (s, w) ≡ false → earlier (t, v) m ≡ false → key s w ≤ key t v
+    (s w t v : ℕ) (m : Time) → w < 32 → earlier m (s, w) ≡ false → earlier (t, v) m ≡ false
+    → key s w ≤ key t v
 key_rises s w t v m l p q = grind (arith, nat_tests)
 
 -- A warp reserves a line that nobody holds.
@@ -39,12 +40,14 @@ module _ (k : Kind) where
   -- The book changes so that no write stamp and no read mark gets smaller, and no owner changes.
   pub record Grown (s s' : k.State) : Type 0 where
     pub stamps : (line : ℕ) → line < line_limit → k.write_stamp s line ≤ k.write_stamp s' line
-    pub marks : (line : ℕ) → line < line_limit → earlier (k.read_mark s' line) (k.read_mark s line) ≡ false
+    pub marks : (line : ℕ) → line < line_limit
+        → earlier (k.read_mark s' line) (k.read_mark s line) ≡ false
     pub owners : (line : ℕ) → line < line_limit → k.owner s' line ≡ k.owner s line
 
   pub record Reserved (s s' : k.State) (w at t : ℕ) : Type 0 where
     pub stamps : (line : ℕ) → line < line_limit → k.write_stamp s line ≤ k.write_stamp s' line
-    pub marks : (line : ℕ) → line < line_limit → earlier (k.read_mark s' line) (k.read_mark s line) ≡ false
+    pub marks : (line : ℕ) → line < line_limit
+        → earlier (k.read_mark s' line) (k.read_mark s line) ≡ false
     pub others : (line : ℕ) → line < line_limit → (line ≡ at → ⊥) → k.owner s' line ≡ k.owner s line
     pub nobody : k.owner s at ≡ None
     pub mine : k.owner s' at ≡ Some w
@@ -58,14 +61,17 @@ module _ (k : Kind) where
   pub record Released (H : Holding) (s s' : k.State) (w : ℕ) (gone : List ℕ) : Type 0 where
     pub its : (line : ℕ) → has line gone ≡ true → (t : ℕ) × (H w line ≡ Some t)
     pub stamps : (line : ℕ) → line < line_limit → k.write_stamp s line ≤ k.write_stamp s' line
-    pub marks : (line : ℕ) → line < line_limit → earlier (k.read_mark s' line) (k.read_mark s line) ≡ false
+    pub marks : (line : ℕ) → line < line_limit
+        → earlier (k.read_mark s' line) (k.read_mark s line) ≡ false
     pub released : (line : ℕ) → line < line_limit → has line gone ≡ true → k.owner s' line ≡ None
-    pub others : (line : ℕ) → line < line_limit → has line gone ≡ false → k.owner s' line ≡ k.owner s line
+    pub others : (line : ℕ) → line < line_limit → has line gone ≡ false
+        → k.owner s' line ≡ k.owner s line
 
 module _ (k : Kind) (first : Lines) where
   -- A warp that holds a line: it is the line's owner in the book, and its stamp is below the line's
   -- write stamp and above every writer's.
-  pub record Holder (txs : List Transaction) (lines : Lines) (s : k.State) (h line t : ℕ) : Type 0 where
+  pub record Holder (txs : List Transaction) (lines : Lines) (s : k.State) (h line t : ℕ) :
+      Type 0 where
     pub warp_low : h < 32
     pub line_low : line < line_limit
     pub owns : k.owner s line ≡ Some h
@@ -74,22 +80,27 @@ module _ (k : Kind) (first : Lines) where
     pub above : (j : ℕ) → writer first txs line j ≡ true → stamp_at first txs j < t
 
   -- What holds of writers, holders and memory.
-  pub record Core (txs : List Transaction) (H : Holding) (lines : Lines) (s : k.State) : Type 0 where
+  pub record Core (txs : List Transaction) (H : Holding) (lines : Lines) (s : k.State) :
+      Type 0 where
     pub sorted :
         (line i j : ℕ) → i < j → writer first txs line i ≡ true → writer first txs line j ≡ true
         → stamp_at first txs i < stamp_at first txs j
     pub warps : (i : ℕ) → i < length txs → (transaction_named txs i).warp < 32
     pub line_low : (line i : ℕ) → writer first txs line i ≡ true → line < line_limit
     pub there : (line i : ℕ) → writer first txs line i ≡ true → is_some (first line) ≡ true
-    pub passes : (line i : ℕ) → writer first txs line i ≡ true → stamp_at first txs i < k.write_stamp s line
-    pub last : (line : ℕ) → lines line ≡ source_value first txs line (committed_source (last_of (writers txs line)))
+    pub passes : (line i : ℕ) → writer first txs line i ≡ true
+        → stamp_at first txs i < k.write_stamp s line
+    pub last : (line : ℕ)
+        → lines line ≡ source_value first txs line (committed_source (last_of (writers txs line)))
     pub same_lines : (line : ℕ) → is_some (lines line) ≡ is_some (first line)
     pub holder : (h line t : ℕ) → H h line ≡ Some t → Holder txs lines s h line t
-    pub owner_holds : (line h : ℕ) → line < line_limit → k.owner s line ≡ Some h → (t : ℕ) × (H h line ≡ Some t)
+    pub owner_holds : (line h : ℕ) → line < line_limit → k.owner s line ≡ Some h
+        → (t : ℕ) × (H h line ≡ Some t)
 
   -- What holds of a load by a transaction with a place, a stamp and a warp.
   pub record ReadNow
-      (txs : List Transaction) (H : Holding) (s : k.State) (place stamp warp line v : ℕ) (f : Source)
+      (txs : List Transaction) (H : Holding) (s : k.State) (place stamp warp line v : ℕ)
+      (f : Source)
       : Type 0
     where
       pub right : IsRightSource first txs place stamp warp line v f
@@ -100,7 +111,8 @@ module _ (k : Kind) (first : Lines) where
   abbrev pub Reads : List Transaction → Holding → k.State → ℕ → Transaction → Type 0
   Reads txs H s place tx = EachLoad (ReadNow txs H s place tx.stamp tx.warp) tx.actions
 
-  module _ (txs : List Transaction) (H : Holding) (lines : Lines) (s s' : k.State) (g : Grown k s s') where
+  module _ (txs : List Transaction) (H : Holding) (lines : Lines) (s s' : k.State)
+      (g : Grown k s s') where
     pub core_grown : Core txs H lines s → Core txs H lines s'
     core_grown c =
         record {
@@ -143,7 +155,8 @@ module _ (k : Kind) (first : Lines) where
         }
 
   module _
-      (txs : List Transaction) (H : Holding) (lines : Lines) (s s' : k.State) (w at t : ℕ) (g : Reserved k s s' w at t)
+      (txs : List Transaction) (H : Holding) (lines : Lines) (s s' : k.State) (w at t : ℕ)
+      (g : Reserved k s s' w at t)
     where
       hold_cases :
           (h line u : ℕ) → with_hold H w at t h line ≡ Some u
@@ -151,13 +164,15 @@ module _ (k : Kind) (first : Lines) where
       hold_cases h line u e = step (eqb h w) refl (eqb line at) refl e
         where
           step :
-              (b : Bool) → eqb h w ≡ b → (c : Bool) → eqb line at ≡ c → cond (b && c) (Some t) (H h line) ≡ Some u
+              (b : Bool) → eqb h w ≡ b → (c : Bool) → eqb line at ≡ c
+              → cond (b && c) (Some t) (H h line) ≡ Some u
               → ((h ≡ w) × (line ≡ at) × (u ≡ t)) ⊎ (H h line ≡ Some u)
           step true p true q r = inl (eqb-true h w p, eqb-true line at q, (cc))
           step true p false q r = inr r
           step false p c q r = inr r
 
-      hold_kept : Core txs H lines s → (h line u : ℕ) → H h line ≡ Some u → with_hold H w at t h line ≡ Some u
+      hold_kept : Core txs H lines s → (h line u : ℕ) → H h line ≡ Some u
+          → with_hold H w at t h line ≡ Some u
       hold_kept c h line u e = step (eqb h w) (eqb line at) refl
         where
           step : (b d : Bool) → eqb line at ≡ d → cond (b && d) (Some t) (H h line) ≡ Some u
@@ -168,7 +183,8 @@ module _ (k : Kind) (first : Lines) where
           step true false q = e
           step false d q = e
 
-      pub core_after_reservation : Core txs H lines s → is_some (lines at) ≡ true → Core txs (with_hold H w at t) lines s'
+      pub core_after_reservation : Core txs H lines s → is_some (lines at) ≡ true
+          → Core txs (with_hold H w at t) lines s'
       core_after_reservation c there =
           record {
             sorted = c.sorted;
@@ -187,7 +203,8 @@ module _ (k : Kind) (first : Lines) where
           }
         where
           holder_now :
-              (h line u : ℕ) → ((h ≡ w) × (line ≡ at) × (u ≡ t)) ⊎ (H h line ≡ Some u) → Holder txs lines s' h line u
+              (h line u : ℕ) → ((h ≡ w) × (line ≡ at) × (u ≡ t)) ⊎ (H h line ≡ Some u)
+              → Holder txs lines s' h line u
           holder_now h line u (inl p) =
               record {
                 warp_low = let a = p.0 in let b = g.warp_low in omega arith;
@@ -222,7 +239,8 @@ module _ (k : Kind) (first : Lines) where
               }
 
           owner_now :
-              (line h : ℕ) → line < line_limit → k.owner s' line ≡ Some h → (line ≡ at) ⊎ (line ≡ at → ⊥)
+              (line h : ℕ) → line < line_limit → k.owner s' line ≡ Some h
+              → (line ≡ at) ⊎ (line ≡ at → ⊥)
               → (u : ℕ) × (with_hold H w at t h line ≡ Some u)
           owner_now line h l e (inl p) =
               let q : k.owner s' at ≡ Some h = ap (k.owner s') (sym p) ∙ e in
@@ -237,7 +255,8 @@ module _ (k : Kind) (first : Lines) where
               (old.0, hold_kept c h line old.0 old.1)
 
       pub read_after_reservation :
-          (place stamp warp line v : ℕ) (f : Source) → warp < 32 → ReadNow txs H s place stamp warp line v f
+          (place stamp warp line v : ℕ) (f : Source) → warp < 32
+          → ReadNow txs H s place stamp warp line v f
           → ReadNow txs (with_hold H w at t) s' place stamp warp line v f
       read_after_reservation place stamp warp line v f low r =
           record {
@@ -250,7 +269,8 @@ module _ (k : Kind) (first : Lines) where
           }
         where
           step :
-              (h u : ℕ) → ((h ≡ w) × (line ≡ at) × (u ≡ t)) ⊎ (H h line ≡ Some u) → key stamp warp ≤ key u h
+              (h u : ℕ) → ((h ≡ w) × (line ≡ at) × (u ≡ t)) ⊎ (H h line ≡ Some u)
+              → key stamp warp ≤ key u h
           step h u (inl p) =
               let q : earlier (t, w) (k.read_mark s line) ≡ false =
               ap (λ n. earlier (t, w) (k.read_mark s n)) p.1 ∙ g.not_read
@@ -260,7 +280,8 @@ module _ (k : Kind) (first : Lines) where
           step h u (inr p) = r.held h u p
 
   module _
-      (txs : List Transaction) (H : Holding) (lines : Lines) (s s' : k.State) (w : ℕ) (gone : List ℕ)
+      (txs : List Transaction) (H : Holding) (lines : Lines) (s s' : k.State) (w : ℕ)
+      (gone : List ℕ)
       (g : Released k H s s' w gone)
     where
       pub still_held :
@@ -269,14 +290,16 @@ module _ (k : Kind) (first : Lines) where
       still_held h line t e = step (eqb h w) refl (has line gone) refl e
         where
           step :
-              (b : Bool) → eqb h w ≡ b → (c : Bool) → has line gone ≡ c → cond (b && c) None (H h line) ≡ Some t
+              (b : Bool) → eqb h w ≡ b → (c : Bool) → has line gone ≡ c
+              → cond (b && c) None (H h line) ≡ Some t
               → (h ≡ w → has line gone ≡ true → ⊥) × (H h line ≡ Some t)
           step true p true q r = let z : ◌≡◌ {A = ℕ} 0 1 = cc in absurd (omega arith)
           step true p false q r = (λ x y. both_ways (has line gone) q y, r)
           step false p c q r = (λ x y. eqb-false h w p x, r)
 
       -- No two warps hold the same line.
-      pub one_holder : Core txs H lines s → (h v line t u : ℕ) → H h line ≡ Some t → H v line ≡ Some u → h ≡ v
+      pub one_holder : Core txs H lines s → (h v line t u : ℕ) → H h line ≡ Some t
+          → H v line ≡ Some u → h ≡ v
       one_holder c h v line t u p q =
           let a = (c.holder h line t p).owns in
           let b = (c.holder v line u q).owns in
@@ -308,7 +331,8 @@ module _ (k : Kind) (first : Lines) where
               absurd (n (one_holder c h w line t its.0 p its.1) q)
           not_gone h line t n p false q = refl
 
-          holder_now : (h line t : ℕ) → without_holds H w gone h line ≡ Some t → Holder txs lines s' h line t
+          holder_now : (h line t : ℕ) → without_holds H w gone h line ≡ Some t
+              → Holder txs lines s' h line t
           holder_now h line t e =
               let kept = still_held h line t e in
               let old = c.holder h line t kept.1 in
@@ -316,7 +340,8 @@ module _ (k : Kind) (first : Lines) where
                 warp_low = old.warp_low;
                 line_low = old.line_low;
                 owns =
-                    g.others line old.line_low (not_gone h line t kept.0 kept.1 (has line gone) refl) ∙ old.owns;
+                    g.others line old.line_low
+                    (not_gone h line t kept.0 kept.1 (has line gone) refl) ∙ old.owns;
                 passes = let a = old.passes in let b = g.stamps line old.line_low in omega arith;
                 there = old.there;
                 above = old.above;
@@ -327,7 +352,8 @@ module _ (k : Kind) (first : Lines) where
           flat false = refl
 
           owner_now :
-              (line h : ℕ) → line < line_limit → k.owner s' line ≡ Some h → (b : Bool) → has line gone ≡ b
+              (line h : ℕ) → line < line_limit → k.owner s' line ≡ Some h → (b : Bool)
+              → has line gone ≡ b
               → (t : ℕ) × (without_holds H w gone h line ≡ Some t)
           owner_now line h l e true q =
               let r = g.released line l q in
@@ -336,7 +362,8 @@ module _ (k : Kind) (first : Lines) where
           owner_now line h l e false q =
               let old = c.owner_holds line h l (sym (g.others line l q) ∙ e) in (
                 old.0,
-                ap (λ b. cond b None (H h line)) (ap (λ b. eqb h w && b) q ∙ flat (eqb h w)) ∙ old.1,
+                ap (λ b. cond b None (H h line)) (ap (λ b. eqb h w && b) q ∙ flat (eqb h w))
+                    ∙ old.1,
               )
 
       pub read_after_release :

@@ -58,7 +58,8 @@ module _ (k : Kind) (first : Lines) where
   -- The exemptions may change, as long as each waiting warp is exempt or blocked.
   pub exempt :
       (E E' : ℕ → ℕ → Type 0) (m : Machine k) (l : Ledger) → Invariant E m l
-      → ((w : ℕ) (r : Request) → is_waiting (warp_row_of m w).phase ≡ true → request_of m.queue w ≡ Some r
+      → ((w : ℕ) (r : Request) → is_waiting (warp_row_of m w).phase ≡ true
+      → request_of m.queue w ≡ Some r
       → E w r.line → E' w r.line ⊎ Blocked l r.line (warp_row_of m w).stamp)
       → Invariant E' m l
   exempt E E' m l I to =
@@ -94,7 +95,8 @@ module _ (k : Kind) (first : Lines) where
       → (is_waiting (warp_row_of m' w).phase ≡ true → Waiter E' m' l' w)
       → (is_waiting (warp_row_of m' w).phase ≡ false → request_of m'.queue w ≡ None)
       → CountsAgree k l' m'.book → Invariant E' m' l'
-  one_row_keeps E E' m m' l l' w I good history size warp_rows currents requests blocks mine waiter quiet_here tally =
+  one_row_keeps E E' m m' l l' w I good history size warp_rows currents requests blocks mine waiter
+      quiet_here tally =
       record {
         good = good;
         history = history;
@@ -112,13 +114,15 @@ module _ (k : Kind) (first : Lines) where
           (subst (Matches (warp_row_of m v)) (sym (currents v n)) (I.warp_rows v))
 
       waiters_now :
-          (v : ℕ) → (v ≡ w) ⊎ (v ≡ w → ⊥) → is_waiting (warp_row_of m' v).phase ≡ true → Waiter E' m' l' v
+          (v : ℕ) → (v ≡ w) ⊎ (v ≡ w → ⊥) → is_waiting (warp_row_of m' v).phase ≡ true
+          → Waiter E' m' l' v
       waiters_now v (inl e) p =
           subst (Waiter E' m' l') (sym e)
           (waiter (subst (λ u. is_waiting (warp_row_of m' u).phase ≡ true) e p))
       waiters_now v (inr n) p =
           let same = warp_rows v n in
-          let old = I.waiters v (subst (λ (warp_row : WarpRow). is_waiting warp_row.phase ≡ true) same p) in
+          let old = I.waiters v
+          (subst (λ (warp_row : WarpRow). is_waiting warp_row.phase ≡ true) same p) in
           record {
             request = old.request;
             requested = requests v n ∙ old.requested;
@@ -126,7 +130,8 @@ module _ (k : Kind) (first : Lines) where
             there = old.there;
             blocked =
                 subst
-                (λ (warp_row : WarpRow). E' v old.request.line ⊎ Blocked l' old.request.line warp_row.stamp)
+                (λ (warp_row : WarpRow). E' v old.request.line
+                ⊎ Blocked l' old.request.line warp_row.stamp)
                 (sym same) (blocks v old.request.line (warp_row_of m v).stamp n old.blocked);
           }
 
@@ -137,7 +142,8 @@ module _ (k : Kind) (first : Lines) where
           ap (request_of m'.queue) e
           ∙ quiet_here (subst (λ u. is_waiting (warp_row_of m' u).phase ≡ false) e p)
       quiet_now v (inr n) p =
-          requests v n ∙ I.quiet v (subst (λ (warp_row : WarpRow). is_waiting warp_row.phase ≡ false) (warp_rows v n) p)
+          requests v n ∙ I.quiet v
+          (subst (λ (warp_row : WarpRow). is_waiting warp_row.phase ≡ false) (warp_rows v n) p)
 
   -- Phases, stamps and queue stay, and held lines stay held.
   pub same_phases_keep :
@@ -176,12 +182,14 @@ module _ (k : Kind) (first : Lines) where
                   }))
                   old.blocked);
             };
-        quiet = λ v p. ap (λ q. request_of q v) queue ∙ I.quiet v (ap is_waiting (sym (phases v)) ∙ p);
+        quiet = λ v p. ap (λ q. request_of q v) queue
+            ∙ I.quiet v (ap is_waiting (sym (phases v)) ∙ p);
         counts = counts;
       }
 
   -- One warp's transaction is replaced in the ledger, and the others stay.
-  pub current_mine : (l : Ledger) (w : ℕ) (o : Option Transaction) → (with_current l w o).current w ≡ o
+  pub current_mine : (l : Ledger) (w : ℕ) (o : Option Transaction)
+      → (with_current l w o).current w ≡ o
   current_mine l w o = ap (λ b. cond b o (l.current w)) (eqb_refl w)
 
   pub current_other :
@@ -192,23 +200,27 @@ module _ (k : Kind) (first : Lines) where
   -- A warp that holds a line has a transaction that stored to it.
   pub holds_line :
       (l : Ledger) (w line t : ℕ) → hold l w line ≡ Some t
-      → (tx : Transaction) × (l.current w ≡ Some tx) × (is_written tx.actions line ≡ true) × (tx.stamp ≡ t)
+      → (tx : Transaction) × (l.current w ≡ Some tx) × (is_written tx.actions line ≡ true)
+      × (tx.stamp ≡ t)
   holds_line l w line t e = step (l.current w) refl e
     where
       inner :
           (tx : Transaction) → l.current w ≡ Some tx → (b : Bool) → is_written tx.actions line ≡ b
           → cond b (Some tx.stamp) None ≡ Some t
-          → (tx : Transaction) × (l.current w ≡ Some tx) × (is_written tx.actions line ≡ true) × (tx.stamp ≡ t)
+          → (tx : Transaction) × (l.current w ≡ Some tx) × (is_written tx.actions line ≡ true)
+          × (tx.stamp ≡ t)
       inner tx p true q r = (tx, p, q, (cc))
       inner tx p false q r = let z : ◌≡◌ {A = ℕ} 0 1 = cc in absurd (omega arith)
 
       step :
           (o : Option Transaction) → l.current w ≡ o → hold_in o line ≡ Some t
-          → (tx : Transaction) × (l.current w ≡ Some tx) × (is_written tx.actions line ≡ true) × (tx.stamp ≡ t)
+          → (tx : Transaction) × (l.current w ≡ Some tx) × (is_written tx.actions line ≡ true)
+          × (tx.stamp ≡ t)
       step None p q = let z : ◌≡◌ {A = ℕ} 0 1 = cc in absurd (omega arith)
       step (Some tx) p q = inner tx p (is_written tx.actions line) refl q
 
-  module _ (keeps : Keeps k) (E : ℕ → ℕ → Type 0) (m : Machine k) (l : Ledger) (I : Invariant E m l) (w : ℕ) where
+  module _ (keeps : Keeps k) (E : ℕ → ℕ → Type 0) (m : Machine k) (l : Ledger) (I : Invariant E m l)
+      (w : ℕ) where
     -- A warp with a transaction.
     module _ (tx : Transaction) (mine : l.current w ≡ Some tx) where
       pub running : Running (warp_row_of m w) tx
@@ -225,12 +237,14 @@ module _ (k : Kind) (first : Lines) where
 
       -- Held lines stay held after one more load or store.
       joined_holds :
-          (d : Action) → ((n : ℕ) → is_written tx.actions n ≡ true → is_written (d ∷ tx.actions) n ≡ true)
+          (d : Action) → ((n : ℕ) → is_written tx.actions n ≡ true
+          → is_written (d ∷ tx.actions) n ≡ true)
           → (h line t : ℕ) → hold l h line ≡ Some t
           → hold (with_current l w (Some (with_action tx d))) h line ≡ Some t
       joined_holds d to h line t e = step (eqb h w) refl
         where
-          step : (b : Bool) → eqb h w ≡ b → hold_in (cond b (Some (with_action tx d)) (l.current h)) line ≡ Some t
+          step : (b : Bool) → eqb h w ≡ b
+              → hold_in (cond b (Some (with_action tx d)) (l.current h)) line ≡ Some t
           step true p =
               let q = holds_line l h line t e in
               let same : l.current h ≡ Some tx = ap l.current (eqb-true h w p) ∙ mine in
@@ -245,7 +259,8 @@ module _ (k : Kind) (first : Lines) where
 
       -- The ledger after one more load or store by this warp. Its row may log the store.
       abbrev pub ledger_with_action : (Transaction → Action) → Ledger
-      ledger_with_action action = with_current l w (option_map (λ t. with_action t (action t)) (l.current w))
+      ledger_with_action action =
+          with_current l w (option_map (λ t. with_action t (action t)) (l.current w))
 
       pub action_keeps :
           (m' : Machine k) (action : Transaction → Action) → k.Good m'.book
@@ -254,7 +269,8 @@ module _ (k : Kind) (first : Lines) where
           → ((v : ℕ) → (warp_row_of m' v).phase ≡ (warp_row_of m v).phase)
           → ((v : ℕ) → (warp_row_of m' v).stamp ≡ (warp_row_of m v).stamp)
           → ((v : ℕ) → (v ≡ w → ⊥) → warp_row_of m' v ≡ warp_row_of m v)
-          → ((n : ℕ) → is_written tx.actions n ≡ true → is_written (action tx ∷ tx.actions) n ≡ true)
+          → ((n : ℕ) → is_written tx.actions n ≡ true
+          → is_written (action tx ∷ tx.actions) n ≡ true)
           → (warp_row_of m' w).log ≡ transaction_stores (action tx ∷ tx.actions)
           → CountsAgree k (ledger_with_action action) m'.book
           → Invariant E m' (ledger_with_action action)
@@ -262,7 +278,8 @@ module _ (k : Kind) (first : Lines) where
           same_phases_keep E m m' l (ledger_with_action action) I good history size queue phases
           stamps
           (λ h line t e.
-          subst (λ o. hold (with_current l w (option_map (λ t. with_action t (action t)) o)) h line ≡ Some t) (sym mine)
+          subst (λ o. hold (with_current l w (option_map (λ t. with_action t (action t)) o)) h line
+          ≡ Some t) (sym mine)
           (joined_holds (action tx) to h line t e))
           (λ v. match v (cases_eq v w)) counts
         where
@@ -286,5 +303,6 @@ module _ (k : Kind) (first : Lines) where
               subst (λ warp_row. Matches warp_row ((ledger_with_action action).current v))
               (sym (others v n))
               (subst (Matches (warp_row_of m v))
-              (sym (current_other l w (option_map (λ t. with_action t (action t)) (l.current w)) v n))
+              (sym (current_other l w (option_map (λ t. with_action t (action t)) (l.current w)) v
+              n))
               (I.warp_rows v))

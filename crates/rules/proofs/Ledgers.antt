@@ -21,16 +21,20 @@ use Rattle.rules.specs.Transactions.{writers, committed_source}
 use Rattle.rules.specs.Ledger.{Ledger, own_or_other_source, load_source, with_action, with_current}
 use Rattle.rules.specs.Ledger.{with_load, with_store, with_begun}
 use Rattle.rules.specs.Ledger.{without_current, with_committed}
-use Rattle.rules.proofs.ListFacts.{eqb_sym, filter_has, has_numbers_below, filtered_numbers_below_rise, last_some}
+use Rattle.rules.proofs.ListFacts.{eqb_sym, filter_has, has_numbers_below}
+use Rattle.rules.proofs.ListFacts.{filtered_numbers_below_rise, last_some}
 use Rattle.rules.proofs.ListFacts.{last_is_greatest}
 use Rattle.rules.proofs.SerialAccount.{AtLoad, each_weaker, writer}
 use Rattle.rules.proofs.SerialOrders.{key, key_of, Earlier, commits_seen, writer_below}
-use Rattle.rules.proofs.History.{Holding, Core, ReadNow, Reads, Grown, Reserved, Released, with_hold}
+use Rattle.rules.proofs.History.{Holding, Core, ReadNow, Reads, Grown, Reserved, Released}
+use Rattle.rules.proofs.History.{with_hold}
 use Rattle.rules.proofs.History.{without_holds}
-use Rattle.rules.proofs.History.{core_grown, read_grown, core_after_reservation, read_after_reservation, core_after_release}
+use Rattle.rules.proofs.History.{core_grown, read_grown, core_after_reservation}
+use Rattle.rules.proofs.History.{read_after_reservation, core_after_release}
 use Rattle.rules.proofs.History.{read_after_release, still_held}
 use Rattle.rules.proofs.History.{one_holder}
-use Rattle.rules.proofs.Commits.{ReadyToCommit, core_with_commit, read_with_commit, named_old, named_new, last_source_names_writer}
+use Rattle.rules.proofs.Commits.{ReadyToCommit, core_with_commit, read_with_commit, named_old}
+use Rattle.rules.proofs.Commits.{named_new, last_source_names_writer}
 
 -- What a transaction holds: the lines that it stored to, at its stamp.
 abbrev pub hold_in : Option Transaction → ℕ → Option ℕ
@@ -41,7 +45,8 @@ abbrev pub hold : Ledger → Holding
 hold l h line = hold_in (l.current h) line
 
 pub hold_writes :
-    (tx : Transaction) (line : ℕ) → is_written tx.actions line ≡ true → hold_in (Some tx) line ≡ Some tx.stamp
+    (tx : Transaction) (line : ℕ) → is_written tx.actions line ≡ true
+    → hold_in (Some tx) line ≡ Some tx.stamp
 hold_writes tx line w = ap (λ b. cond b (Some tx.stamp) None) w
 
 -- After one warp's transaction is replaced, every current transaction is the new one or was current
@@ -79,10 +84,12 @@ module _ (k : Kind) (first : Lines) where
     pub here : (h : ℕ) (tx : Transaction) → l.current h ≡ Some tx → (tx.warp ≡ h) × (h < 32)
 
   -- One warp's transaction is replaced.
-  module _ (l : Ledger) (w : ℕ) (o : Option Transaction) (H' : Holding) (lines : Lines) (s' : k.State) where
+  module _ (l : Ledger) (w : ℕ) (o : Option Transaction) (H' : Holding) (lines : Lines)
+      (s' : k.State) where
     changed :
         hold (with_current l w o) ≡ H' → Core k first l.committed H' lines s'
-        → ((i : ℕ) → i < length l.committed → Reads k first l.committed H' s' i (transaction_named l.committed i))
+        → ((i : ℕ) → i < length l.committed
+        → Reads k first l.committed H' s' i (transaction_named l.committed i))
         → ((h : ℕ) (tx : Transaction) → (h ≡ w → ⊥) → l.current h ≡ Some tx
         → Reads k first l.committed H' s' (length l.committed) tx)
         → ((tx : Transaction) → o ≡ Some tx
@@ -94,7 +101,8 @@ module _ (k : Kind) (first : Lines) where
           core = subst (λ H. Core k first l.committed H lines s') (sym e) core;
           past =
               λ i low.
-              subst (λ H. Reads k first l.committed H s' i (transaction_named l.committed i)) (sym e) (past i low);
+              subst (λ H. Reads k first l.committed H s' i (transaction_named l.committed i))
+              (sym e) (past i low);
           now =
               λ h tx p.
               subst (λ H. Reads k first l.committed H s' (length l.committed) tx) (sym e)
@@ -121,7 +129,8 @@ module _ (k : Kind) (first : Lines) where
     -- A transaction begins.
     pub begun : l.current w ≡ None → w < 32 → (stamp : ℕ) → History (with_begun l w stamp) lines s
     begun none low stamp =
-        changed l w (Some (record { stamp = stamp; warp = w; actions = [] })) (hold l) lines s holds H.core
+        changed l w (Some (record { stamp = stamp; warp = w; actions = [] }))
+        (hold l) lines s holds H.core
         H.past (λ h tx n e. H.now h tx e)
         (λ tx e. (fresh tx e, (fresh_warp tx e, low))) H.here
       where
@@ -132,7 +141,8 @@ module _ (k : Kind) (first : Lines) where
             let p : record { stamp = stamp; warp = w; actions = [] } ≡ tx = cc in
             subst (Reads k first l.committed (hold l) s (length l.committed)) p tt
 
-        fresh_warp : (tx : Transaction) → Some (record { stamp = stamp; warp = w; actions = [] }) ≡ Some tx → tx.warp ≡ w
+        fresh_warp : (tx : Transaction)
+            → Some (record { stamp = stamp; warp = w; actions = [] }) ≡ Some tx → tx.warp ≡ w
         fresh_warp tx e =
             let p : record { stamp = stamp; warp = w; actions = [] } ≡ tx = cc in
             ap (λ (t : Transaction). t.warp) (sym p)
@@ -142,9 +152,11 @@ module _ (k : Kind) (first : Lines) where
           where
             step :
                 (h line : ℕ) (b : Bool) → eqb h w ≡ b
-                → hold_in (cond b (Some (record { stamp = stamp; warp = w; actions = [] })) (l.current h)) line
+                → hold_in (cond b (Some (record { stamp = stamp; warp = w; actions = [] }))
+                (l.current h)) line
                 ≡ hold_in (l.current h) line
-            step h line true p = sym (ap (λ o. hold_in o line) (ap l.current (eqb-true h w p) ∙ none))
+            step h line true p =
+                sym (ap (λ o. hold_in o line) (ap l.current (eqb-true h w p) ∙ none))
             step h line false p = refl
 
     -- A warp releases some lines, and its transaction is replaced by one that holds the remaining
@@ -155,7 +167,8 @@ module _ (k : Kind) (first : Lines) where
 
       pub lines_released :
           (o : Option Transaction) → hold (with_current l w o) ≡ without_holds (hold l) w gone
-          → ((tx : Transaction) → o ≡ Some tx → left (length l.committed) tx × ((tx.warp ≡ w) × (w < 32)))
+          → ((tx : Transaction) → o ≡ Some tx
+          → left (length l.committed) tx × ((tx.warp ≡ w) × (w < 32)))
           → History (with_current l w o) lines s'
       lines_released o holds its =
           changed l w o (without_holds (hold l) w gone) lines s' holds
@@ -164,11 +177,14 @@ module _ (k : Kind) (first : Lines) where
           (λ h tx n e. weaken (length l.committed) tx (H.now h tx e))
           its H.here
         where
-          weaken : (place : ℕ) (tx : Transaction) → Reads k first l.committed (hold l) s place tx → left place tx
+          weaken : (place : ℕ) (tx : Transaction) → Reads k first l.committed (hold l) s place tx
+              → left place tx
           weaken place tx r =
               each_weaker (ReadNow k first l.committed (hold l) s place tx.stamp tx.warp)
-              (ReadNow k first l.committed (without_holds (hold l) w gone) s' place tx.stamp tx.warp)
-              (read_after_release k first l.committed (hold l) lines s s' w gone g place tx.stamp tx.warp) tx.actions r
+              (ReadNow k first l.committed
+              (without_holds (hold l) w gone) s' place tx.stamp tx.warp)
+              (read_after_release k first l.committed
+              (hold l) lines s s' w gone g place tx.stamp tx.warp) tx.actions r
 
       -- A warp releases all its lines.
       pub all_lines_released :
@@ -176,7 +192,8 @@ module _ (k : Kind) (first : Lines) where
           → hold (without_current l w) ≡ without_holds (hold l) w gone
       all_lines_released all = fun_ext (λ h. fun_ext (λ line. step h line (eqb h w) refl))
         where
-          all_gone : (line : ℕ) (o : Option ℕ) → hold l w line ≡ o → cond (has line gone) None o ≡ None
+          all_gone : (line : ℕ) (o : Option ℕ) → hold l w line ≡ o
+              → cond (has line gone) None o ≡ None
           all_gone line None e = same (has line gone)
             where
               same : (b : Bool) → ◌≡◌ {A = Option ℕ} (cond b None None) None
@@ -196,9 +213,11 @@ module _ (k : Kind) (first : Lines) where
 
       -- A transaction ends without a commit.
       pub ended :
-          ((line t : ℕ) → hold l w line ≡ Some t → has line gone ≡ true) → History (without_current l w) lines s'
+          ((line t : ℕ) → hold l w line ≡ Some t → has line gone ≡ true)
+          → History (without_current l w) lines s'
       ended all =
-          lines_released None (all_lines_released all) (λ tx e. let z : ◌≡◌ {A = ℕ} 0 1 = cc in absurd (omega arith))
+          lines_released None (all_lines_released all)
+          (λ tx e. let z : ◌≡◌ {A = ℕ} 0 1 = cc in absurd (omega arith))
 
     module _ (tx : Transaction) (mine : l.current w ≡ Some tx) where
       -- A transaction with one more load or store, after the book has changed.
@@ -228,14 +247,16 @@ module _ (k : Kind) (first : Lines) where
           weaken place t r =
               each_weaker (ReadNow k first l.committed (hold l) s place t.stamp t.warp)
               (ReadNow k first l.committed (hold l) s' place t.stamp t.warp)
-              (read_grown k first l.committed (hold l) lines s s' g place t.stamp t.warp) t.actions r
+              (read_grown k first l.committed (hold l) lines s s' g place t.stamp t.warp) t.actions
+              r
 
           holds : hold (with_current l w (Some (with_action tx d))) ≡ hold l
           holds = fun_ext (λ h. fun_ext (λ line. step h line (eqb h w) refl))
             where
               step :
                   (h line : ℕ) (b : Bool) → eqb h w ≡ b
-                  → hold_in (cond b (Some (with_action tx d)) (l.current h)) line ≡ hold_in (l.current h) line
+                  → hold_in (cond b (Some (with_action tx d)) (l.current h)) line ≡ hold_in
+                  (l.current h) line
               step h line true p =
                   ap (λ b. cond b (Some tx.stamp) None) (same line)
                   ∙ sym (ap (λ o. hold_in o line) (ap l.current (eqb-true h w p) ∙ mine))
@@ -252,14 +273,16 @@ module _ (k : Kind) (first : Lines) where
           (s' : k.State) → Grown k s s' → (line v : ℕ) → last_own_store tx.actions line ≡ Some v
           → History (with_load l w line v) lines s'
       load_own s' g line v e =
-          subst (λ l'. History l' lines s') (as_joined (λ t. loaded (load_action line v (load_source l.committed t line))))
+          subst (λ l'. History l' lines s')
+          (as_joined (λ t. loaded (load_action line v (load_source l.committed t line))))
           (joined s' g (loaded (load_action line v (load_source l.committed tx line))) (λ n. refl)
           (λ r. (
             subst
                 (λ o.
                 AtLoad
                 (ReadNow k first l.committed (hold l) s' (length l.committed) tx.stamp tx.warp)
-                line v (own_or_other_source o (committed_source (last_of (writers l.committed line)))) o)
+                line v (own_or_other_source o
+                (committed_source (last_of (writers l.committed line)))) o)
                 (sym e) (refl, refl),
             r,
           )))
@@ -267,18 +290,21 @@ module _ (k : Kind) (first : Lines) where
       -- A load of a line that the transaction has not stored to.
       pub load_other :
           (s' : k.State) → Grown k s s' → (line v : ℕ) → last_own_store tx.actions line ≡ None
-          → lines line ≡ Some v → line < line_limit → k.owner s line ≡ None → k.write_stamp s line ≤ tx.stamp
+          → lines line ≡ Some v → line < line_limit → k.owner s line ≡ None
+          → k.write_stamp s line ≤ tx.stamp
           → earlier (k.read_mark s' line) (tx.stamp, tx.warp) ≡ false
           → History (with_load l w line v) lines s'
       load_other s' g line v e value low nobody unwritten reached =
-          subst (λ l'. History l' lines s') (as_joined (λ t. loaded (load_action line v (load_source l.committed t line))))
+          subst (λ l'. History l' lines s')
+          (as_joined (λ t. loaded (load_action line v (load_source l.committed t line))))
           (joined s' g (loaded (load_action line v (load_source l.committed tx line))) (λ n. refl)
           (λ r. (
             subst
                 (λ o.
                 AtLoad
                 (ReadNow k first l.committed (hold l) s' (length l.committed) tx.stamp tx.warp)
-                line v (own_or_other_source o (committed_source (last_of (writers l.committed line)))) o)
+                line v (own_or_other_source o
+                (committed_source (last_of (writers l.committed line)))) o)
                 (sym e) reading,
             r,
           )))
@@ -296,9 +322,11 @@ module _ (k : Kind) (first : Lines) where
               let z = last_some (writers l.committed line) j inside in
               let top =
               last_is_greatest (writers l.committed line) z.0 j
-              (filtered_numbers_below_rise (writer first l.committed line) (length l.committed)) z.1 inside
+              (filtered_numbers_below_rise (writer first l.committed line) (length l.committed)) z.1
+              inside
               in
-              let q : commits_seen (committed_source (last_of (writers l.committed line))) ≡ suc z.0 =
+              let q : commits_seen (committed_source (last_of (writers l.committed line)))
+              ≡ suc z.0 =
               ap (λ o. commits_seen (committed_source o)) z.1
               in
               omega arith
@@ -334,25 +362,31 @@ module _ (k : Kind) (first : Lines) where
         where
           step :
               (n : ℕ) (b : Bool) → eqb line n ≡ b
-              → is_some (cond b (Some v) (last_own_store tx.actions n)) ≡ is_some (last_own_store tx.actions n)
-          step n true p = sym (ap is_some (ap (last_own_store tx.actions) (sym (eqb-true line n p)) ∙ e))
+              → is_some (cond b (Some v) (last_own_store tx.actions n)) ≡ is_some
+              (last_own_store tx.actions n)
+          step n true p =
+              sym (ap is_some (ap (last_own_store tx.actions) (sym (eqb-true line n p)) ∙ e))
           step n false p = refl
 
       -- A store to a line that the transaction reserves with it.
       pub store_new :
-          (s' : k.State) (line v : ℕ) → Reserved k s s' w line tx.stamp → is_some (lines line) ≡ true
+          (s' : k.State) (line v : ℕ) → Reserved k s s' w line tx.stamp
+          → is_some (lines line) ≡ true
           → History (with_store l w line v) lines s'
       store_new s' line v g there =
           subst (λ l'. History l' lines s') (as_joined (λ t. stored (log_entry line v)))
-          (changed l w (Some (with_action tx (stored (log_entry line v)))) (with_hold (hold l) w line tx.stamp) lines s' holds
-          (core_after_reservation k first l.committed (hold l) lines s s' w line tx.stamp g H.core there)
+          (changed l w (Some (with_action tx (stored (log_entry line v))))
+          (with_hold (hold l) w line tx.stamp) lines s' holds
+          (core_after_reservation k first l.committed
+          (hold l) lines s s' w line tx.stamp g H.core there)
           (λ i low.
           weaken i (transaction_named l.committed i) (H.core.warps i low) (H.past i low))
           (λ h t n e. weaken (length l.committed) t (warp_low h t e) (H.now h t e))
           (λ t e.
           let p : with_action tx (stored (log_entry line v)) ≡ t = cc in
           let q = H.here w tx mine in (
-            subst (Reads k first l.committed (with_hold (hold l) w line tx.stamp) s' (length l.committed)) p
+            subst (Reads k first l.committed (with_hold (hold l) w line tx.stamp) s'
+                (length l.committed)) p
                 (weaken (length l.committed) tx (warp_low w tx mine) (H.now w tx mine)),
             (ap (λ (u : Transaction). u.warp) (sym p) ∙ q.0, q.1),
           ))
@@ -362,29 +396,35 @@ module _ (k : Kind) (first : Lines) where
           warp_low h t e = let q = H.here h t e in let a = q.0 in let b = q.1 in omega arith
 
           weaken :
-              (place : ℕ) (t : Transaction) → t.warp < 32 → Reads k first l.committed (hold l) s place t
+              (place : ℕ) (t : Transaction) → t.warp < 32
+              → Reads k first l.committed (hold l) s place t
               → Reads k first l.committed (with_hold (hold l) w line tx.stamp) s' place t
           weaken place t low r =
               each_weaker (ReadNow k first l.committed (hold l) s place t.stamp t.warp)
-              (ReadNow k first l.committed (with_hold (hold l) w line tx.stamp) s' place t.stamp t.warp)
+              (ReadNow k first l.committed (with_hold (hold l) w line tx.stamp) s' place t.stamp
+              t.warp)
               (λ n u f.
-              read_after_reservation k first l.committed (hold l) lines s s' w line tx.stamp g place t.stamp t.warp
+              read_after_reservation k first l.committed
+              (hold l) lines s s' w line tx.stamp g place t.stamp t.warp
               n u f low)
               t.actions r
 
-          holds : hold (with_current l w (Some (with_action tx (stored (log_entry line v))))) ≡ with_hold (hold l) w line tx.stamp
+          holds : hold (with_current l w (Some (with_action tx (stored (log_entry line v)))))
+              ≡ with_hold (hold l) w line tx.stamp
           holds = fun_ext (λ h. fun_ext (λ n. step h n (eqb h w) refl))
             where
               on_line :
                   (n : ℕ) (b : Bool)
-                  → cond (is_some (cond b (Some v) (last_own_store tx.actions n))) (Some tx.stamp) None
+                  → cond (is_some (cond b (Some v) (last_own_store tx.actions n)))
+                  (Some tx.stamp) None
                   ≡ cond b (Some tx.stamp) (hold_in (Some tx) n)
               on_line n true = refl
               on_line n false = refl
 
               step :
                   (h n : ℕ) (b : Bool) → eqb h w ≡ b
-                  → hold_in (cond b (Some (with_action tx (stored (log_entry line v)))) (l.current h)) n
+                  → hold_in (cond b (Some (with_action tx (stored (log_entry line v))))
+                  (l.current h)) n
                   ≡ cond (b && eqb n line) (Some tx.stamp) (hold_in (l.current h) n)
               step h n true p =
                   on_line n (eqb line n)
@@ -397,11 +437,16 @@ module _ (k : Kind) (first : Lines) where
       pub committed :
           (gone : List ℕ) (s' : k.State) → Released k (hold l) s s' w gone
           → ((line t : ℕ) → hold l w line ≡ Some t → has line gone ≡ true)
-          → History (with_committed l w) (lines_after_stores lines (transaction_stores tx.actions)) s'
+          → History (with_committed l w) (lines_after_stores lines (transaction_stores tx.actions))
+          s'
       committed gone s' g all =
           subst
           (λ o.
-          History (record { current = (without_current l w).current; committed = l.committed ++ option_to_list o })
+          History (record {
+            current = (without_current l w).current;
+            committed = l.committed
+                ++ option_to_list o;
+          })
           (lines_after_stores lines (transaction_stores tx.actions)) s')
           (sym mine) closed
         where
@@ -426,23 +471,29 @@ module _ (k : Kind) (first : Lines) where
                 above = old.above;
                 nobody =
                     λ h t e.
-                    let p = still_held k first l.committed (hold l) lines s s' w gone g h line t e in
+                    let p = still_held k first l.committed
+                    (hold l) lines s s' w gone g h line t e in
                     p.0
-                    (one_holder k first l.committed (hold l) lines s s' w gone g H.core h w line t tx.stamp p.1
+                    (one_holder k first l.committed
+                    (hold l) lines s s' w gone g H.core h w line t tx.stamp p.1
                     (held_at line x))
                     (all line tx.stamp (held_at line x));
               }
 
           later :
               (place place' stamp warp line v : ℕ) (f : Source)
-              → (place' ≡ place) ⊎ ((place ≡ length l.committed) × (place' ≡ suc (length l.committed)))
+              → (place' ≡ place)
+              ⊎ ((place ≡ length l.committed) × (place' ≡ suc (length l.committed)))
               → (key stamp warp ≤ key_of tx → (length l.committed ≡ place' → ⊥)
               → Earlier (key stamp warp) place' (key_of tx) (length l.committed))
               → ReadNow k first l.committed (hold l) s place stamp warp line v f
-              → ReadNow k first (l.committed ++ tx ∷ []) (without_holds (hold l) w gone) s' place' stamp warp line v f
+              → ReadNow k first (l.committed ++ tx ∷ [])
+              (without_holds (hold l) w gone) s' place' stamp warp line v f
           later place place' stamp warp line v f moved newer r =
-              read_with_commit k first l.committed (without_holds (hold l) w gone) lines s' tx place place' stamp warp line v f
-              (read_after_release k first l.committed (hold l) lines s s' w gone g place stamp warp line v f r) moved
+              read_with_commit k first l.committed
+              (without_holds (hold l) w gone) lines s' tx place place' stamp warp line v f
+              (read_after_release k first l.committed
+              (hold l) lines s s' w gone g place stamp warp line v f r) moved
               (λ x d.
               newer
               (subst (λ z. key stamp warp ≤ key tx.stamp z) (sym warp_is)
@@ -450,14 +501,16 @@ module _ (k : Kind) (first : Lines) where
               d)
 
           Late : ℕ → Transaction → Type 0
-          Late place t = Reads k first (l.committed ++ tx ∷ []) (hold (without_current l w)) s' place t
+          Late place t =
+              Reads k first (l.committed ++ tx ∷ []) (hold (without_current l w)) s' place t
 
           holds : hold (without_current l w) ≡ without_holds (hold l) w gone
           holds = all_lines_released gone s' g all
 
           reads_more :
               (place place' : ℕ) (t : Transaction)
-              → (place' ≡ place) ⊎ ((place ≡ length l.committed) × (place' ≡ suc (length l.committed)))
+              → (place' ≡ place)
+              ⊎ ((place ≡ length l.committed) × (place' ≡ suc (length l.committed)))
               → (key_of t ≤ key_of tx → (length l.committed ≡ place' → ⊥)
               → Earlier (key_of t) place' (key_of tx) (length l.committed))
               → Reads k first l.committed (hold l) s place t
@@ -465,7 +518,8 @@ module _ (k : Kind) (first : Lines) where
           reads_more place place' t moved newer r =
               subst (λ H. Reads k first (l.committed ++ tx ∷ []) H s' place' t) (sym holds)
               (each_weaker (ReadNow k first l.committed (hold l) s place t.stamp t.warp)
-              (ReadNow k first (l.committed ++ tx ∷ []) (without_holds (hold l) w gone) s' place' t.stamp t.warp)
+              (ReadNow k first (l.committed ++ tx ∷ [])
+              (without_holds (hold l) w gone) s' place' t.stamp t.warp)
               (λ line v f. later place place' t.stamp t.warp line v f moved newer) t.actions r)
 
           one_more : length (l.committed ++ tx ∷ []) ≡ suc (length l.committed)
@@ -482,13 +536,15 @@ module _ (k : Kind) (first : Lines) where
               step (inl p) =
                   subst (Reads k first (l.committed ++ tx ∷ []) (hold (without_current l w)) s' i)
                   (sym (named_old first l.committed tx i p))
-                  (reads_more i i (transaction_named l.committed i) (inl refl) (λ a d. (a, λ b. p)) (H.past i p))
+                  (reads_more i i (transaction_named l.committed i) (inl refl) (λ a d. (a, λ b. p))
+                  (H.past i p))
               step (inr p) =
                   let e : length l.committed ≡ i = omega (arith, one_more) in
                   subst
                   (λ j. Late j (transaction_named (l.committed ++ tx ∷ []) j))
                   e
-                  (subst (Reads k first (l.committed ++ tx ∷ []) (hold (without_current l w)) s' (length l.committed))
+                  (subst (Reads k first (l.committed ++ tx ∷ []) (hold (without_current l w)) s'
+                  (length l.committed))
                   (sym (named_new first l.committed tx))
                   (reads_more (length l.committed) (length l.committed) tx (inl refl)
                   (λ a d. absurd (d refl)) (H.now w tx mine)))
@@ -499,7 +555,8 @@ module _ (k : Kind) (first : Lines) where
           now_now h t n e =
               let q = H.here h t e in
               let r = H.here w tx mine in
-              subst (λ place. Reads k first (l.committed ++ tx ∷ []) (hold (without_current l w)) s' place t) (sym one_more)
+              subst (λ place. Reads k first (l.committed ++ tx ∷ [])
+              (hold (without_current l w)) s' place t) (sym one_more)
               (reads_more (length l.committed) (suc (length l.committed)) t (inr (refl, refl))
               (λ a d.
               let b : key_of t < key_of tx =
@@ -510,15 +567,22 @@ module _ (k : Kind) (first : Lines) where
               (H.now h t e))
 
           closed :
-              History (record { current = (without_current l w).current; committed = l.committed ++ tx ∷ [] })
+              History (record {
+                current = (without_current l w).current;
+                committed = l.committed
+                    ++ tx ∷ [];
+              })
               (lines_after_stores lines (transaction_stores tx.actions)) s'
           closed =
               record {
                 core =
-                    subst (λ H. Core k first (l.committed ++ tx ∷ []) H (lines_after_stores lines (transaction_stores tx.actions)) s')
+                    subst (λ H. Core k first (l.committed ++ tx ∷ []) H
+                    (lines_after_stores lines (transaction_stores tx.actions)) s')
                     (sym holds)
-                    (core_with_commit k first l.committed (without_holds (hold l) w gone) lines s' tx
-                    (core_after_release k first l.committed (hold l) lines s s' w gone g H.core) warp_low ready);
+                    (core_with_commit k first l.committed
+                    (without_holds (hold l) w gone) lines s' tx
+                    (core_after_release k first l.committed (hold l) lines s s' w gone g H.core)
+                    warp_low ready);
                 past = past_now;
                 now = λ h t e. now_cases h t (current_cases l w None h t e);
                 here = λ h t e. here_cases h t (current_cases l w None h t e);

@@ -64,11 +64,13 @@ has_filter t z (x ∷ xs) = step (t x) refl (eqb x z) refl (has_filter t z xs)
         flat false = refl
     step false p false q h = h
 
-pub filter_has : (t : ℕ → Bool) (z : ℕ) (xs : List ℕ) → has z xs ≡ true → t z ≡ true → has z (filter t xs) ≡ true
+pub filter_has : (t : ℕ → Bool) (z : ℕ) (xs : List ℕ) → has z xs ≡ true → t z ≡ true
+    → has z (filter t xs) ≡ true
 filter_has t z xs h k = let e = has_filter t z xs in cc
 
 pub has_of_filter :
-    (t : ℕ → Bool) (z : ℕ) (xs : List ℕ) → has z (filter t xs) ≡ true → (has z xs ≡ true) × (t z ≡ true)
+    (t : ℕ → Bool) (z : ℕ) (xs : List ℕ) → has z (filter t xs) ≡ true
+    → (has z xs ≡ true) × (t z ≡ true)
 has_of_filter t z xs h = and_parts (has z xs) (t z) (sym (has_filter t z xs) ∙ h)
 
 pub has_numbers_below : (z n : ℕ) → has z (numbers_below n) ≡ ltb z n
@@ -93,7 +95,8 @@ has_count z (x ∷ xs) = step (eqb x z) (has_count z xs)
     step true h = sym (lt-ltb 0 (1 + occurrences z xs) (omega arith))
     step false h = h ∙ ap (ltb 0) (omega arith)
 
-pub count_append : (z : ℕ) (xs ys : List ℕ) → occurrences z (xs ++ ys) ≡ occurrences z xs + occurrences z ys
+pub count_append : (z : ℕ) (xs ys : List ℕ)
+    → occurrences z (xs ++ ys) ≡ occurrences z xs + occurrences z ys
 count_append z [] ys = omega arith
 count_append z (x ∷ xs) ys = omega (arith, count_append z xs ys)
 
@@ -207,7 +210,8 @@ rising_apart [] ys a b h p q = absurd (both_ways false refl p)
 rising_apart (x ∷ xs) ys a b h p q = step (eqb x a) refl p (rising_apart xs ys a b h.1)
   where
     step :
-        (e : Bool) → eqb x a ≡ e → (e || has a xs) ≡ true → (has a xs ≡ true → has b ys ≡ true → a < b) → a < b
+        (e : Bool) → eqb x a ≡ e → (e || has a xs) ≡ true
+        → (has a xs ≡ true → has b ys ≡ true → a < b) → a < b
     step true r k rest =
         let f : x < b = h.0 b (has_append b xs ys ∙ or_right (has b xs) (has b ys) q) in
         omega (arith, eqb-true x a r)
@@ -230,12 +234,15 @@ rising_push (x ∷ xs) z h k = (
 pub filtered_numbers_below_rise : (t : ℕ → Bool) (n : ℕ) → Rising (filter t (numbers_below n))
 filtered_numbers_below_rise t zero = tt
 filtered_numbers_below_rise t (suc n) =
-    subst Rising (sym (filter_append t (numbers_below n) (n ∷ []))) (step (t n) (filtered_numbers_below_rise t n))
+    subst Rising (sym (filter_append t (numbers_below n) (n ∷ [])))
+    (step (t n) (filtered_numbers_below_rise t n))
   where
     below : (y : ℕ) → has y (filter t (numbers_below n)) ≡ true → y < n
-    below y h = ltb-true y n (sym (has_numbers_below y n) ∙ (has_of_filter t y (numbers_below n) h).0)
+    below y h = ltb-true y n
+        (sym (has_numbers_below y n) ∙ (has_of_filter t y (numbers_below n) h).0)
 
-    step : (b : Bool) → Rising (filter t (numbers_below n)) → Rising (filter t (numbers_below n) ++ cond b (n ∷ []) [])
+    step : (b : Bool) → Rising (filter t (numbers_below n))
+        → Rising (filter t (numbers_below n) ++ cond b (n ∷ []) [])
     step true h = rising_push (filter t (numbers_below n)) n h below
     step false h = subst Rising (sym (append_nil (filter t (numbers_below n)))) h
 
@@ -265,13 +272,16 @@ rising_same (x ∷ xs) (y ∷ ys) h k e =
     heads = pick (or_cases (eqb y x) (has x ys) x_in) (or_cases (eqb x y) (has y xs) y_in)
 
     not_in :
-        (u : ℕ) (us : List ℕ) → ((v : ℕ) → has v us ≡ true → u < v) → (z : ℕ) → u ≡ z → has z us ≡ false
-    not_in u us low z p = ⊎_elim (λ q. absurd (omega (arith, low z q))) (λ q. q) (cases_Bool (has z us))
+        (u : ℕ) (us : List ℕ) → ((v : ℕ) → has v us ≡ true → u < v) → (z : ℕ) → u ≡ z
+        → has z us ≡ false
+    not_in u us low z p = ⊎_elim (λ q. absurd (omega (arith, low z q))) (λ q. q)
+        (cases_Bool (has z us))
 
     tails : (z : ℕ) → has z xs ≡ has z ys
     tails z = step (eqb x z) refl (e z)
       where
-        step : (b : Bool) → eqb x z ≡ b → (b || has z xs) ≡ (eqb y z || has z ys) → has z xs ≡ has z ys
+        step : (b : Bool) → eqb x z ≡ b → (b || has z xs) ≡ (eqb y z || has z ys)
+            → has z xs ≡ has z ys
         step true p q =
             not_in x xs h.0 z (eqb-true x z p)
             ∙ sym (not_in y ys k.0 z (sym heads ∙ eqb-true x z p))
@@ -319,7 +329,8 @@ rising_from_before t (x ∷ xs) once first =
             (or_left (eqb x x) (has x xs) (eqb_refl x)) l))))
 
     step :
-        (b : Bool) → t x ≡ b → Rising (filter t xs) → Rising (cond b (x ∷ filter t xs) (filter t xs))
+        (b : Bool) → t x ≡ b → Rising (filter t xs)
+        → Rising (cond b (x ∷ filter t xs) (filter t xs))
     step true p rest = (above p, rest)
     step false p rest = rest
 
@@ -380,7 +391,8 @@ last_some (x ∷ xs) y h = go xs x
     go (v ∷ us) u = go us v
 
 -- Of a list that rises, nothing is larger than the last.
-pub last_is_greatest : (xs : List ℕ) (z y : ℕ) → Rising xs → last_of xs ≡ Some z → has y xs ≡ true → y ≤ z
+pub last_is_greatest : (xs : List ℕ) (z y : ℕ) → Rising xs → last_of xs ≡ Some z → has y xs ≡ true
+    → y ≤ z
 last_is_greatest [] z y r e h = absurd (both_ways false refl h)
 last_is_greatest (x ∷ xs) z y r e h = go xs x r e y h
   where
@@ -402,5 +414,6 @@ pub last_rising :
     → last_of xs ≡ Some z
 last_rising xs z r h top =
     let l = last_some xs z h in
-    let e : l.0 ≡ z = omega (arith, top l.0 (last_is_in xs l.0 l.1), last_is_greatest xs l.0 z r l.1 h) in
+    let e : l.0 ≡ z =
+    omega (arith, top l.0 (last_is_in xs l.0 l.1), last_is_greatest xs l.0 z r l.1 h) in
     l.1 ∙ ap Some e

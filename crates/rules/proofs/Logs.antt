@@ -18,52 +18,62 @@ use Rattle.rules.specs.Transactions.{transaction_stores}
 use Rattle.rules.proofs.ListFacts.{eqb_refl, has_append}
 
 -- The last value that the log has for a line is the one that the transaction last stored.
-pub logged_own : (actions : List Action) (line : ℕ) → last_stored (transaction_stores actions) line ≡ last_own_store actions line
+pub logged_own : (actions : List Action) (line : ℕ)
+    → last_stored (transaction_stores actions) line ≡ last_own_store actions line
 logged_own [] line = refl
 logged_own (loaded d ∷ actions) line = logged_own actions line
 logged_own (stored s ∷ actions) line =
-    fold_push (λ found (e : LogEntry). cond (eqb e.line line) (Some e.value) found) None (transaction_stores actions) s
+    fold_push (λ found (e : LogEntry). cond (eqb e.line line) (Some e.value) found) None
+    (transaction_stores actions) s
     ∙ ap (λ o. cond (eqb s.line line) (Some s.value) o) (logged_own actions line)
 
 -- The logged lines are those that the transaction stored to.
-has_push_new : (z : ℕ) (commits_seen : List ℕ) (x : ℕ) → has z (push_new commits_seen x) ≡ (has z commits_seen || eqb x z)
+has_push_new : (z : ℕ) (commits_seen : List ℕ) (x : ℕ)
+    → has z (push_new commits_seen x) ≡ (has z commits_seen || eqb x z)
 has_push_new z commits_seen x = step (has x commits_seen) refl
   where
     or_false : (b : Bool) → (b || false) ≡ b
     or_false true = refl
     or_false false = refl
 
-    step : (b : Bool) → has x commits_seen ≡ b → has z (cond b commits_seen (commits_seen ++ x ∷ [])) ≡ (has z commits_seen || eqb x z)
-    step false e = has_append z commits_seen (x ∷ []) ∙ ap (λ b. has z commits_seen || b) (or_false (eqb x z))
+    step : (b : Bool) → has x commits_seen ≡ b
+        → has z (cond b commits_seen (commits_seen ++ x ∷ [])) ≡ (has z commits_seen || eqb x z)
+    step false e = has_append z commits_seen (x ∷ [])
+        ∙ ap (λ b. has z commits_seen || b) (or_false (eqb x z))
     step true e = ⊎_elim same other (cases_Bool (eqb x z))
       where
         same : eqb x z ≡ true → has z commits_seen ≡ (has z commits_seen || eqb x z)
         same p =
-            let h : has z commits_seen ≡ true = subst (λ y. has y commits_seen ≡ true) (eqb-true x z p) e in
+            let h : has z commits_seen ≡ true =
+            subst (λ y. has y commits_seen ≡ true) (eqb-true x z p) e in
             h ∙ sym (or_left (has z commits_seen) (eqb x z) h)
 
         other : eqb x z ≡ false → has z commits_seen ≡ (has z commits_seen || eqb x z)
         other p = sym (ap (λ b. has z commits_seen || b) p ∙ or_false (has z commits_seen))
 
-has_distinct_from : (z : ℕ) (xs commits_seen : List ℕ) → has z (fold push_new commits_seen xs) ≡ (has z commits_seen || has z xs)
+has_distinct_from : (z : ℕ) (xs commits_seen : List ℕ)
+    → has z (fold push_new commits_seen xs) ≡ (has z commits_seen || has z xs)
 has_distinct_from z [] commits_seen = flat (has z commits_seen)
   where
     flat : (b : Bool) → b ≡ (b || false)
     flat true = refl
     flat false = refl
 has_distinct_from z (x ∷ xs) commits_seen =
-    has_distinct_from z xs (push_new commits_seen x) ∙ ap (λ b. b || has z xs) (has_push_new z commits_seen x)
+    has_distinct_from z xs (push_new commits_seen x)
+    ∙ ap (λ b. b || has z xs) (has_push_new z commits_seen x)
     ∙ regroup (has z commits_seen) (eqb x z) (has z xs)
   where
     regroup : (a b c : Bool) → ((a || b) || c) ≡ (a || (b || c))
     regroup true b c = refl
     regroup false b c = refl
 
-pub has_logged : (actions : List Action) (line : ℕ) → has line (logged_lines (transaction_stores actions)) ≡ is_written actions line
+pub has_logged : (actions : List Action) (line : ℕ)
+    → has line (logged_lines (transaction_stores actions)) ≡ is_written actions line
 has_logged actions line =
     has_distinct_from line (entry_lines (transaction_stores actions)) [] ∙ in_log actions
   where
-    in_log : (ds : List Action) → has line (entry_lines (transaction_stores ds)) ≡ is_written ds line
+    in_log : (ds : List Action)
+        → has line (entry_lines (transaction_stores ds)) ≡ is_written ds line
     in_log [] = refl
     in_log (loaded d ∷ ds) = in_log ds
     in_log (stored s ∷ ds) =
@@ -72,7 +82,8 @@ has_logged actions line =
         ∙ ap (λ b. b || (eqb s.line line || false)) (in_log ds)
         ∙ step (eqb s.line line) (last_own_store ds line)
       where
-        step : (b : Bool) (o : Option ℕ) → (is_some o || (b || false)) ≡ is_some (cond b (Some s.value) o)
+        step : (b : Bool) (o : Option ℕ)
+            → (is_some o || (b || false)) ≡ is_some (cond b (Some s.value) o)
         step true None = refl
         step true (Some u) = refl
         step false None = refl
@@ -81,11 +92,13 @@ has_logged actions line =
 module _ {k : Kind} (m : Machine k) (w : ℕ) where
   -- A row that is replaced is the new one, and the others do not change.
   pub warp_row_put :
-      (warp_row : WarpRow) → w < length m.warp_rows → warp_row_of (with_warp_row m w warp_row) w ≡ warp_row
+      (warp_row : WarpRow) → w < length m.warp_rows
+      → warp_row_of (with_warp_row m w warp_row) w ≡ warp_row
   warp_row_put warp_row low = get_or-set_same m.warp_rows w warp_row (idle_row 0) low
 
   pub warp_row_kept :
-      (warp_row : WarpRow) (v : ℕ) → (v ≡ w → ⊥) → warp_row_of (with_warp_row m w warp_row) v ≡ warp_row_of m v
+      (warp_row : WarpRow) (v : ℕ) → (v ≡ w → ⊥)
+      → warp_row_of (with_warp_row m w warp_row) v ≡ warp_row_of m v
   warp_row_kept warp_row v n = get_or-set_other m.warp_rows w v warp_row (idle_row 0) n
 
   -- A warp that is not idle is one of the machine's.
@@ -95,10 +108,12 @@ module _ {k : Kind} (m : Machine k) (w : ℕ) where
       (λ g.
       absurd
       (both_ways (is_idle (warp_row_of m w).phase) e
-      (ap (λ (warp_row : WarpRow). is_idle warp_row.phase) (get_or_past m.warp_rows w (idle_row 0) g))))
+      (ap (λ (warp_row : WarpRow). is_idle warp_row.phase)
+      (get_or_past m.warp_rows w (idle_row 0) g))))
       (cases_lt w (length m.warp_rows))
 
-pub waiting_busy : (p : Rattle.rules.specs.declared.state.Phase.Phase) → is_waiting p ≡ true → is_idle p ≡ false
+pub waiting_busy : (p : Rattle.rules.specs.declared.state.Phase.Phase) → is_waiting p ≡ true
+    → is_idle p ≡ false
 waiting_busy Idle e = absurd (both_ways false refl e)
 waiting_busy Open e = refl
 waiting_busy Waiting e = refl
@@ -127,7 +142,8 @@ request_mine (q ∷ queue) r e = step (eqb q.warp r.warp) e (request_mine queue 
 
 -- When a request leaves the queue, the requests of others stay.
 pub request_left :
-    (queue : List Request) (w v : ℕ) → (v ≡ w → ⊥) → request_of (queue_without queue w) v ≡ request_of queue v
+    (queue : List Request) (w v : ℕ) → (v ≡ w → ⊥)
+    → request_of (queue_without queue w) v ≡ request_of queue v
 request_left [] w v n = refl
 request_left (q ∷ queue) w v n = step (eqb q.warp w) refl (request_left queue w v n)
   where

@@ -11,6 +11,8 @@ pub product_lawful : (k : Kind) → ProductLawful k
 product_lawful k keeps lines book good stamps calls =
     record {
       accounts = law_of_accounts k keeps (product_policy k) lines book good stamps calls;
-      explained = law_of_explanation k (law_of_accounts k) keeps (product_policy k) lines book good stamps calls;
-      waits = law_of_waits k keeps (product_policy k) (product_covers k) lines book good stamps calls;
+      explained = law_of_explanation k (law_of_accounts k) keeps
+          (product_policy k) lines book good stamps calls;
+      waits = law_of_waits k keeps (product_policy k)
+          (product_covers k) lines book good stamps calls;
     }

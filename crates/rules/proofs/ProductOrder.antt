@@ -23,26 +23,31 @@ module _ (rows : List WarpRow) where
 
       step :
           (b : Bool) → has z (inserted_by_stamp rows xs w) ≡ (eqb w z || has z xs)
-          → has z (cond b (w ∷ v ∷ xs) (v ∷ inserted_by_stamp rows xs w)) ≡ (eqb w z || (eqb v z || has z xs))
+          → has z (cond b (w ∷ v ∷ xs) (v ∷ inserted_by_stamp rows xs w)) ≡
+          (eqb w z || (eqb v z || has z xs))
       step true h = refl
       step false h = ap (λ b. eqb v z || b) h ∙ swap (eqb w z) (eqb v z) (has z xs)
 
-  has_turns : (ws xs : List ℕ) (z : ℕ) → has z ws ≡ true → has z (fold (inserted_by_stamp rows) xs ws) ≡ true
+  has_turns : (ws xs : List ℕ) (z : ℕ) → has z ws ≡ true
+      → has z (fold (inserted_by_stamp rows) xs ws) ≡ true
   has_turns [] xs z h = absurd (Rattle.std.proofs.lemmas.Bool.both_ways false refl h)
   has_turns (w ∷ ws) xs z h = step (eqb w z) refl h (has_turns ws (inserted_by_stamp rows xs w) z)
     where
       step :
           (b : Bool) → eqb w z ≡ b → (b || has z ws) ≡ true
-          → (has z ws ≡ true → has z (fold (inserted_by_stamp rows) (inserted_by_stamp rows xs w) ws) ≡ true)
+          → (has z ws ≡ true
+          → has z (fold (inserted_by_stamp rows) (inserted_by_stamp rows xs w) ws) ≡ true)
           → has z (fold (inserted_by_stamp rows) (inserted_by_stamp rows xs w) ws) ≡ true
       step false e k rest = rest k
       step true e k rest =
           stays ws (inserted_by_stamp rows xs w) (has_placed xs w z ∙ ap (λ b. b || has z xs) e)
         where
-          stays : (us ys : List ℕ) → has z ys ≡ true → has z (fold (inserted_by_stamp rows) ys us) ≡ true
+          stays : (us ys : List ℕ) → has z ys ≡ true
+              → has z (fold (inserted_by_stamp rows) ys us) ≡ true
           stays [] ys p = p
           stays (u ∷ us) ys p =
-              stays us (inserted_by_stamp rows ys u) (has_placed ys u z ∙ or_right (eqb u z) (has z ys) p)
+              stays us (inserted_by_stamp rows ys u)
+              (has_placed ys u z ∙ or_right (eqb u z) (has z ys) p)
 
 abbrev warp_of : Request → ℕ
 warp_of q = q.warp

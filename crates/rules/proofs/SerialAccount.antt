@@ -24,11 +24,14 @@ value_after_stores (Some v) old = option_map (λ _. v) old
 
 pub written_at :
     (ls : Lines) (actions : List Action) (line : ℕ)
-    → lines_after_stores ls (transaction_stores actions) line ≡ value_after_stores (last_own_store actions line) (ls line)
+    → lines_after_stores ls (transaction_stores actions) line ≡ value_after_stores
+    (last_own_store actions line) (ls line)
 written_at ls [] line = refl
 written_at ls (loaded d ∷ actions) line = written_at ls actions line
 written_at ls (stored s ∷ actions) line =
-    ap (λ (m : Lines). m line) (fold_push (λ ls (s : LogEntry). lines_with ls s.line s.value) ls (transaction_stores actions) s)
+    ap (λ (m : Lines). m line)
+    (fold_push (λ ls (s : LogEntry). lines_with ls s.line s.value) ls
+    (transaction_stores actions) s)
     ∙ ap (λ b. cond b (option_map (λ _. s.value) before) before) (eqb_sym line s.line)
     ∙ step (eqb s.line line) (last_own_store actions line) (written_at ls actions line)
   where
@@ -41,13 +44,16 @@ written_at ls (stored s ∷ actions) line =
     twice u None = refl
     twice u (Some x) = refl
 
-    thrice : (o : Option ℕ) → option_map (λ _. s.value) (value_after_stores o (ls line)) ≡ option_map (λ _. s.value) (ls line)
+    thrice : (o : Option ℕ)
+        → option_map (λ _. s.value) (value_after_stores o (ls line)) ≡ option_map (λ _. s.value)
+        (ls line)
     thrice None = refl
     thrice (Some u) = twice u (ls line)
 
     step :
         (b : Bool) (o : Option ℕ) → before ≡ value_after_stores o (ls line)
-        → cond b (option_map (λ _. s.value) before) before ≡ value_after_stores (cond b (Some s.value) o) (ls line)
+        → cond b (option_map (λ _. s.value) before) before ≡ value_after_stores
+        (cond b (Some s.value) o) (ls line)
     step true o e = ap (option_map (λ _. s.value)) e ∙ thrice o
     step false o e = e
 
@@ -55,7 +61,8 @@ module _ (first : Lines) (txs : List Transaction) where
   -- The value of the store that a load found. A load of an own store is dealt with apart.
   abbrev pub source_value : ℕ → Source → Option ℕ
   source_value line own_store = None
-  source_value line (committed_store name) = last_own_store (transaction_named txs name).actions line
+  source_value line (committed_store name) =
+      last_own_store (transaction_named txs name).actions line
   source_value line initial_memory = first line
 
   abbrev pub writer : ℕ → ℕ → Bool
@@ -70,7 +77,8 @@ module _ (first : Lines) (txs : List Transaction) where
   writers_alone line [] a = sym (append-nil (a.line_writers line))
   writers_alone line (x ∷ order) a =
       writers_alone line order (account_after txs a x)
-      ∙ append_assoc (a.line_writers line) (cond (writer line x) (x ∷ []) []) (filter (writer line) order)
+      ∙ append_assoc (a.line_writers line) (cond (writer line x) (x ∷ []) [])
+      (filter (writer line) order)
       ∙ ap (λ l. a.line_writers line ++ l) (step (writer line x))
     where
       step :
@@ -93,7 +101,8 @@ module _ (first : Lines) (txs : List Transaction) where
       (λ p.
       values_alone line order (account_after txs a x) p)
     where
-      at_line : (account_after txs a x).last_values line ≡ value_after_stores (last_own_store (transaction_named txs x).actions line) (a.last_values line)
+      at_line : (account_after txs a x).last_values line ≡ value_after_stores
+          (last_own_store (transaction_named txs x).actions line) (a.last_values line)
       at_line = written_at a.last_values (transaction_named txs x).actions line
 
       goal : Option ℕ → List ℕ → Type 0
@@ -103,8 +112,10 @@ module _ (first : Lines) (txs : List Transaction) where
 
       rest : Type 0
       rest =
-          (p : Option ℕ) → (account_after txs a x).last_values line ≡ source_value line (committed_source p)
-          → ((name : ℕ) → writer line name ≡ true → is_some ((account_after txs a x).last_values line) ≡ true)
+          (p : Option ℕ)
+          → (account_after txs a x).last_values line ≡ source_value line (committed_source p)
+          → ((name : ℕ) → writer line name ≡ true
+          → is_some ((account_after txs a x).last_values line) ≡ true)
           → goal p (filter (writer line) order)
 
       some_mapped : (v : ℕ) (q : Option ℕ) → is_some q ≡ true → option_map (λ _. v) q ≡ Some v
@@ -135,7 +146,8 @@ module _ (first : Lines) (txs : List Transaction) where
   loads_stay i (x ∷ order) a h =
       let k = or_parts (eqb x i) (has i order) h in
       loads_stay i order (account_after txs a x) k.1
-      ∙ ap (λ b. cond b (load_results_alone a (transaction_named txs x).actions) (a.loads i)) (eqb_sym i x ∙ k.0)
+      ∙ ap (λ b. cond b (load_results_alone a (transaction_named txs x).actions) (a.loads i))
+      (eqb_sym i x ∙ k.0)
 
   -- The loads of a transaction get what the account says when it is executed.
   pub loads_alone :
@@ -146,7 +158,8 @@ module _ (first : Lines) (txs : List Transaction) where
   loads_alone i p q a h =
       ap (λ (b : Account). b.loads i) (fold_append (account_after txs) a p (i ∷ q))
       ∙ loads_stay i q (account_after txs (fold (account_after txs) a p) i) h
-      ∙ ap (λ b. cond b (load_results_alone here (transaction_named txs i).actions) (here.loads i)) (eqb_refl i)
+      ∙ ap (λ b. cond b (load_results_alone here (transaction_named txs i).actions) (here.loads i))
+      (eqb_refl i)
     where
       here : Account
       here = fold (account_after txs) a p
@@ -159,7 +172,8 @@ AtLoad P line v f None = P line v f
 
 abbrev pub EachLoad : (ℕ → ℕ → Source → Type 0) → List Action → Type 0
 EachLoad P [] = Unit {0}
-EachLoad P (loaded d ∷ actions) = AtLoad P d.line d.value d.source (last_own_store actions d.line) × EachLoad P actions
+EachLoad P (loaded d ∷ actions) = AtLoad P d.line d.value d.source (last_own_store actions d.line)
+    × EachLoad P actions
 EachLoad P (stored s ∷ actions) = EachLoad P actions
 
 pub each_weaker :
@@ -182,11 +196,13 @@ module _ (P : ℕ → ℕ → Source → Type 0) (a : Account) where
 
   pub loads_get_the_same :
       ((line v : ℕ) (f : Source) → P line v f → (a.last_values line ≡ Some v) × (there line ≡ f))
-      → (actions : List Action) → EachLoad P actions → load_results actions ≡ load_results_alone a actions
+      → (actions : List Action) → EachLoad P actions
+      → load_results actions ≡ load_results_alone a actions
   loads_get_the_same same [] h = refl
   loads_get_the_same same (loaded d ∷ actions) h =
       ap (λ g. g ∷ load_results actions) (step (last_own_store actions d.line) h.0)
-      ∙ ap (λ l. load_result_alone (last_own_store actions d.line) (a.last_values d.line) (there d.line) ∷ l)
+      ∙ ap (λ l. load_result_alone (last_own_store actions d.line) (a.last_values d.line)
+      (there d.line) ∷ l)
       (loads_get_the_same same actions h.1)
     where
       got : ℕ → Source → LoadResult
@@ -202,7 +218,8 @@ module _ (P : ℕ → ℕ → Source → Type 0) (a : Account) where
   loads_get_the_same same (stored s ∷ actions) h = loads_get_the_same same actions h
 
   pub loads_find_the_same :
-      (actions : List Action) → load_results actions ≡ load_results_alone a actions → EachLoad P actions
+      (actions : List Action) → load_results actions ≡ load_results_alone a actions
+      → EachLoad P actions
       → EachLoad (λ line v f. P line v f × (f ≡ there line)) actions
   loads_find_the_same [] e h = tt
   loads_find_the_same (loaded d ∷ actions) e h =
@@ -210,7 +227,8 @@ module _ (P : ℕ → ℕ → Source → Type 0) (a : Account) where
     where
       step :
           (o : Option ℕ) → AtLoad P d.line d.value d.source o
-          → record { value = Some d.value; source = d.source } ≡ load_result_alone o (a.last_values d.line) (there d.line)
+          → record { value = Some d.value; source = d.source } ≡ load_result_alone o
+          (a.last_values d.line) (there d.line)
           → AtLoad (λ line v f. P line v f × (f ≡ there line)) d.line d.value d.source o
       step (Some u) p q = p
       step None p q = (p, ap (λ (g : LoadResult). g.source) q)
@@ -238,7 +256,8 @@ read_source P line (loaded d ∷ actions) r n h =
 read_source P line (stored s ∷ actions) r n h =
     read_source P line actions r (step (eqb s.line line) n) h
   where
-    step : (b : Bool) → cond b (Some s.value) (last_own_store actions line) ≡ None → last_own_store actions line ≡ None
+    step : (b : Bool) → cond b (Some s.value) (last_own_store actions line) ≡ None
+        → last_own_store actions line ≡ None
     step true k = cc
     step false k = k
 
@@ -258,5 +277,6 @@ each_read P R (loaded d ∷ actions) to h = (
         (o : Option ℕ) → AtLoad P d.line d.value d.source o
         → AtLoad (λ line v f. P line v f × R line) d.line d.value d.source o
     step (Some u) p = p
-    step None p = (p, to d.line (or_left (eqb d.line d.line) (is_read actions d.line) (eqb_refl d.line)))
+    step None p =
+        (p, to d.line (or_left (eqb d.line d.line) (is_read actions d.line) (eqb_refl d.line)))
 each_read P R (stored s ∷ actions) to h = each_read P R actions to h

@@ -20,10 +20,12 @@ use Rattle.rules.proofs.ListFacts.{has_append, has_filter, filter_has, filter_ap
 use Rattle.rules.proofs.ListFacts.{has_numbers_below, has_count, Once}
 use Rattle.rules.proofs.ListFacts.{once_apart, split_at, front_before, before_at, before_in_front}
 use Rattle.rules.proofs.ListFacts.{Rising, rising_left}
-use Rattle.rules.proofs.ListFacts.{rising_apart, filtered_numbers_below_rise, rising_same, rising_from_before}
+use Rattle.rules.proofs.ListFacts.{rising_apart, filtered_numbers_below_rise, rising_same}
+use Rattle.rules.proofs.ListFacts.{rising_from_before}
 use Rattle.rules.proofs.ListFacts.{before_from_rising}
 use Rattle.rules.proofs.ListFacts.{last_none, last_is_in, last_some, last_is_greatest, last_rising}
-use Rattle.rules.proofs.SerialAccount.{source_value, writer, writers_alone, values_alone, loads_alone}
+use Rattle.rules.proofs.SerialAccount.{source_value, writer, writers_alone, values_alone}
+use Rattle.rules.proofs.SerialAccount.{loads_alone}
 use Rattle.rules.proofs.SerialAccount.{EachLoad, loads_get_the_same}
 use Rattle.rules.proofs.SerialAccount.{loads_find_the_same, read_source, each_read}
 
@@ -51,14 +53,16 @@ numbers_time s w a t v b hw hv h = grind (arith, nat_tests)
 
 -- Two transactions conflict if one writes the line and the other uses it.
 conflict_of_left_writer :
-    (wa ra wb rb : Bool) → wa ≡ true → (wb || rb) ≡ true → ((wa || ra) && ((wb || rb) && (wa || wb))) ≡ true
+    (wa ra wb rb : Bool) → wa ≡ true → (wb || rb) ≡ true
+    → ((wa || ra) && ((wb || rb) && (wa || wb))) ≡ true
 conflict_of_left_writer true ra true rb p q = refl
 conflict_of_left_writer true ra false true p q = refl
 conflict_of_left_writer true ra false false p q = q
 conflict_of_left_writer false ra wb rb p q = absurd (both_ways false refl p)
 
 conflict_of_right_writer :
-    (wa ra wb rb : Bool) → (wa || ra) ≡ true → wb ≡ true → ((wa || ra) && ((wb || rb) && (wa || wb))) ≡ true
+    (wa ra wb rb : Bool) → (wa || ra) ≡ true → wb ≡ true
+    → ((wa || ra) && ((wb || rb) && (wa || wb))) ≡ true
 conflict_of_right_writer true ra true rb p q = refl
 conflict_of_right_writer false true true rb p q = refl
 conflict_of_right_writer false false true rb p q = p
@@ -68,10 +72,13 @@ conflict_of_right_writer wa ra false rb p q = absurd (both_ways false refl q)
 -- and a writer.
 data ConflictKind : Bool → Bool → Bool → Bool → Type 0 where
   two_writers : {wa ra wb rb : Bool} → wa ≡ true → wb ≡ true → ConflictKind wa ra wb rb
-  writer_and_reader : {wa ra wb rb : Bool} → wa ≡ true → wb ≡ false → rb ≡ true → ConflictKind wa ra wb rb
-  reader_and_writer : {wa ra wb rb : Bool} → wa ≡ false → ra ≡ true → wb ≡ true → ConflictKind wa ra wb rb
+  writer_and_reader : {wa ra wb rb : Bool} → wa ≡ true → wb ≡ false → rb ≡ true
+      → ConflictKind wa ra wb rb
+  reader_and_writer : {wa ra wb rb : Bool} → wa ≡ false → ra ≡ true → wb ≡ true
+      → ConflictKind wa ra wb rb
 
-conflict_kind : (wa ra wb rb : Bool) → ((wa || ra) && ((wb || rb) && (wa || wb))) ≡ true → ConflictKind wa ra wb rb
+conflict_kind : (wa ra wb rb : Bool) → ((wa || ra) && ((wb || rb) && (wa || wb))) ≡ true
+    → ConflictKind wa ra wb rb
 conflict_kind true ra true rb h = two_writers refl refl
 conflict_kind true ra false true h = writer_and_reader refl refl refl
 conflict_kind true ra false false h = absurd (both_ways false refl h)
@@ -118,13 +125,16 @@ pub record Serial (first : Lines) (txs : List Transaction) (memory : Lines) : Ty
       → (transaction_named txs i).stamp < (transaction_named txs j).stamp
   pub loads :
       (i : ℕ) → i < length txs
-      → EachLoad (IsRightSource first txs i (transaction_named txs i).stamp (transaction_named txs i).warp) (transaction_named txs i).actions
-  pub last : (line : ℕ) → memory line ≡ source_value first txs line (committed_source (last_of (writers txs line)))
+      → EachLoad (IsRightSource first txs i (transaction_named txs i).stamp
+      (transaction_named txs i).warp) (transaction_named txs i).actions
+  pub last : (line : ℕ)
+      → memory line ≡ source_value first txs line (committed_source (last_of (writers txs line)))
   pub warps : (i : ℕ) → i < length txs → (transaction_named txs i).warp < 32
   pub there : (line i : ℕ) → writer first txs line i ≡ true → is_some (first line) ≡ true
 
 pub writer_below :
-    (first : Lines) (txs : List Transaction) (line i : ℕ) → writer first txs line i ≡ true → i < length txs
+    (first : Lines) (txs : List Transaction) (line i : ℕ) → writer first txs line i ≡ true
+    → i < length txs
 writer_below first txs line i h =
     ⊎_elim (λ l. l)
     (λ g.
@@ -133,7 +143,8 @@ writer_below first txs line i h =
     (ap (λ (tx : Transaction). is_written tx.actions line) (get_or_past txs i no_transaction g)) h))
     (cases_lt i (length txs))
 
-module _ (first : Lines) (txs : List Transaction) (memory : Lines) (S : Serial first txs memory) where
+module _ (first : Lines) (txs : List Transaction) (memory : Lines)
+    (S : Serial first txs memory) where
   abbrev n : ℕ
   n = length txs
 
@@ -147,14 +158,16 @@ module _ (first : Lines) (txs : List Transaction) (memory : Lines) (S : Serial f
       (a b : ℕ) → a < n → b < n → Earlier (key_at first txs a) a (key_at first txs b) b
       → is_earlier txs a b ≡ true
   earlier_bit a b ha hb e =
-      numbers_time (transaction_named txs a).stamp (transaction_named txs a).warp a (transaction_named txs b).stamp (transaction_named txs b).warp b
+      numbers_time (transaction_named txs a).stamp (transaction_named txs a).warp a
+      (transaction_named txs b).stamp (transaction_named txs b).warp b
       (S.warps a ha) (S.warps b hb) e
 
   bit_earlier :
       (a b : ℕ) → a < n → b < n → is_earlier txs a b ≡ true
       → Earlier (key_at first txs a) a (key_at first txs b) b
   bit_earlier a b ha hb e =
-      time_numbers (transaction_named txs a).stamp (transaction_named txs a).warp a (transaction_named txs b).stamp (transaction_named txs b).warp b
+      time_numbers (transaction_named txs a).stamp (transaction_named txs a).warp a
+      (transaction_named txs b).stamp (transaction_named txs b).warp b
       (S.warps a ha) (S.warps b hb) e
 
   stamp_earlier :
@@ -184,7 +197,8 @@ module _ (first : Lines) (txs : List Transaction) (memory : Lines) (S : Serial f
         step false e = omega arith
 
     -- The writers and the value of a line after some transactions of the order.
-    serial_writers : (line : ℕ) (p : List ℕ) → (serial_account first txs p).line_writers line ≡ filter (wr line) p
+    serial_writers : (line : ℕ) (p : List ℕ)
+        → (serial_account first txs p).line_writers line ≡ filter (wr line) p
     serial_writers line p = writers_alone first txs line p start
 
     serial_values :
@@ -199,13 +213,15 @@ module _ (first : Lines) (txs : List Transaction) (memory : Lines) (S : Serial f
         ⊎_elim
         (λ h.
         absurd
-        (once_apart i p (i ∷ q) (subst Once e once) h (or_left (eqb i i) (has i q) (eq-eqb i i refl))))
+        (once_apart i p (i ∷ q) (subst Once e once) h
+        (or_left (eqb i i) (has i q) (eq-eqb i i refl))))
         (λ h. h) (cases_Bool (has i p))
 
     not_back : (i : ℕ) (p q : List ℕ) → order ≡ p ++ i ∷ q → has i q ≡ false
     not_back i p q e =
         ⊎_elim
-        (λ h. absurd (once_apart i (p ++ i ∷ []) q (subst Once (e ∙ regroup p) once) (in_front p) h))
+        (λ h. absurd (once_apart i (p ++ i ∷ []) q (subst Once (e ∙ regroup p) once)
+        (in_front p) h))
         (λ h. h) (cases_Bool (has i q))
       where
         regroup : (l : List ℕ) → l ++ i ∷ q ≡ (l ++ i ∷ []) ++ q
@@ -225,7 +241,8 @@ module _ (first : Lines) (txs : List Transaction) (memory : Lines) (S : Serial f
           (λ a b ta tb ha hb l.
           logical a b (below line a ta) (below line b tb) (
             line,
-            conflict_of_left_writer (wr line a) (is_read (transaction_named txs a).actions line) (wr line b)
+            conflict_of_left_writer (wr line a) (is_read (transaction_named txs a).actions line)
+                (wr line b)
                 (is_read (transaction_named txs b).actions line) ta
                 (or_left (wr line b) (is_read (transaction_named txs b).actions line) tb),
           )
@@ -237,12 +254,15 @@ module _ (first : Lines) (txs : List Transaction) (memory : Lines) (S : Serial f
           rising_same (filter (wr line) order) (writers txs line) (writers_rise line)
           (filtered_numbers_below_rise (wr line) n)
           (λ z.
-          has_filter (wr line) z order ∙ ap (λ b. b && wr line z) (in_order z ∙ sym (has_numbers_below z n))
+          has_filter (wr line) z order
+          ∙ ap (λ b. b && wr line z) (in_order z ∙ sym (has_numbers_below z n))
           ∙ sym (has_filter (wr line) z (numbers_below n)))
 
       -- The writers before a reader in the order are just those up to the store that it found.
-      module _ (i : ℕ) (i_low : i < n) (p q : List ℕ) (cut : order ≡ p ++ i ∷ q) (line v : ℕ) (f : Source)
-          (right : IsRightSource first txs i (transaction_named txs i).stamp (transaction_named txs i).warp line v f)
+      module _ (i : ℕ) (i_low : i < n) (p q : List ℕ) (cut : order ≡ p ++ i ∷ q) (line v : ℕ)
+          (f : Source)
+          (right : IsRightSource first txs i (transaction_named txs i).stamp
+          (transaction_named txs i).warp line v f)
           (reader : is_read (transaction_named txs i).actions line ≡ true)
         where
           front_seen : (j : ℕ) → has j (filter (wr line) p) ≡ true → j < commits_seen f
@@ -255,16 +275,19 @@ module _ (first : Lines) (txs : List Transaction) (memory : Lines) (S : Serial f
               j_writes = (has_of_filter (wr line) j p h).1
 
               other : j ≡ i → ⊥
-              other e = both_ways (has i p) (not_front i p q cut) (subst (λ z. has z p ≡ true) e j_front)
+              other e = both_ways (has i p) (not_front i p q cut)
+                  (subst (λ z. has z p ≡ true) e j_front)
 
               late : commits_seen f ≤ j → j < commits_seen f
               late l =
                   let first_i : is_before order i j ≡ true =
                   logical i j i_low (below line j j_writes) (
                     line,
-                    conflict_of_right_writer (wr line i) (is_read (transaction_named txs i).actions line) (wr line j)
+                    conflict_of_right_writer (wr line i)
+                        (is_read (transaction_named txs i).actions line) (wr line j)
                         (is_read (transaction_named txs j).actions line)
-                        (or_right (wr line i) (is_read (transaction_named txs i).actions line) reader) j_writes,
+                        (or_right (wr line i)
+                        (is_read (transaction_named txs i).actions line) reader) j_writes,
                   )
                   (earlier_bit i j i_low (below line j j_writes) (right.after j j_writes l other))
                   in
@@ -276,14 +299,16 @@ module _ (first : Lines) (txs : List Transaction) (memory : Lines) (S : Serial f
                   (once_apart j p (i ∷ q) (subst Once cut once) j_front
                   (or_right (eqb i j) (has j q) in_back))
 
-          seen_front : (j : ℕ) → wr line j ≡ true → j < commits_seen f → has j (filter (wr line) p) ≡ true
+          seen_front : (j : ℕ) → wr line j ≡ true → j < commits_seen f
+              → has j (filter (wr line) p) ≡ true
           seen_front j t l =
               filter_has (wr line) j p
               (before_in_front p q j i (not_front i p q cut) (not_back i p q cut)
               (subst (λ o. is_before o j i ≡ true) cut
               (logical j i (below line j t) i_low (
                 line,
-                conflict_of_left_writer (wr line j) (is_read (transaction_named txs j).actions line) (wr line i)
+                conflict_of_left_writer (wr line j) (is_read (transaction_named txs j).actions line)
+                    (wr line i)
                     (is_read (transaction_named txs i).actions line) t
                     (or_right (wr line i) (is_read (transaction_named txs i).actions line) reader),
               )
@@ -294,7 +319,8 @@ module _ (first : Lines) (txs : List Transaction) (memory : Lines) (S : Serial f
           front_rises : Rising (filter (wr line) p)
           front_rises =
               rising_left (filter (wr line) p) (filter (wr line) (i ∷ q))
-              (subst Rising (ap (filter (wr line)) cut ∙ filter_append (wr line) p (i ∷ q)) (writers_rise line))
+              (subst Rising (ap (filter (wr line)) cut ∙ filter_append (wr line) p (i ∷ q))
+              (writers_rise line))
 
           finds : committed_source (last_of (filter (wr line) p)) ≡ f
           finds = step f right.names front_seen seen_front
@@ -302,7 +328,8 @@ module _ (first : Lines) (txs : List Transaction) (memory : Lines) (S : Serial f
               step :
                   (g : Source) → NamesWriter first txs g line
                   → ((j : ℕ) → has j (filter (wr line) p) ≡ true → j < commits_seen g)
-                  → ((j : ℕ) → wr line j ≡ true → j < commits_seen g → has j (filter (wr line) p) ≡ true)
+                  → ((j : ℕ) → wr line j ≡ true → j < commits_seen g
+                  → has j (filter (wr line) p) ≡ true)
                   → committed_source (last_of (filter (wr line) p)) ≡ g
               step own_store bad up down = absurd bad
               step (committed_store j) t up down =
@@ -323,18 +350,22 @@ module _ (first : Lines) (txs : List Transaction) (memory : Lines) (S : Serial f
             ap (λ l. committed_source (last_of l)) (serial_writers line p) ∙ finds,
           )
 
-      equal_loads : (i : ℕ) → i < n → load_results (transaction_named txs i).actions ≡ (serial_account first txs order).loads i
+      equal_loads : (i : ℕ) → i < n
+          → load_results (transaction_named txs i).actions ≡
+          (serial_account first txs order).loads i
       equal_loads i l =
           let s = split_at i order (stands i l) in
           let actions = (transaction_named txs i).actions in
           let P : ℕ → ℕ → Source → Type 0 =
           λ line v f.
-          IsRightSource first txs i (transaction_named txs i).stamp (transaction_named txs i).warp line v f
+          IsRightSource first txs i (transaction_named txs i).stamp
+          (transaction_named txs i).warp line v f
           × (is_read actions line ≡ true)
           in
           loads_get_the_same P (serial_account first txs s.front)
           (λ line v f r. gets i l s.front s.back s.whole line v f r.0 r.1) actions
-          (each_read (IsRightSource first txs i (transaction_named txs i).stamp (transaction_named txs i).warp)
+          (each_read (IsRightSource first txs i (transaction_named txs i).stamp
+          (transaction_named txs i).warp)
           (λ line. is_read actions line ≡ true) actions (λ line r. r) (S.loads i l))
           ∙ sym (loads_alone first txs i s.front s.back start (not_back i s.front s.back s.whole))
           ∙ ap (λ o. (serial_account first txs o).loads i) (sym s.whole)
@@ -346,40 +377,55 @@ module _ (first : Lines) (txs : List Transaction) (memory : Lines) (S : Serial f
             same_values =
                 λ line.
                 S.last line
-                ∙ ap (λ ws. source_value first txs line (committed_source (last_of ws))) (sym (writers_same line))
+                ∙ ap (λ ws. source_value first txs line (committed_source (last_of ws)))
+                (sym (writers_same line))
                 ∙ sym (serial_values line order);
             same_writers = λ line. sym (writers_same line) ∙ sym (serial_writers line order);
           }
 
     -- From equal accounts to logical order.
-    module _ (equal_accounts : EqualAccounts n (account_of txs memory) (serial_account first txs order)) where
+    module _ (equal_accounts : EqualAccounts n (account_of txs memory)
+        (serial_account first txs order)) where
       same_turns : (line : ℕ) → filter (wr line) order ≡ writers txs line
       same_turns line = sym (serial_writers line order) ∙ sym (equal_accounts.same_writers line)
 
       turns_rise : (line : ℕ) → Rising (filter (wr line) order)
-      turns_rise line = subst Rising (sym (same_turns line)) (filtered_numbers_below_rise (wr line) n)
+      turns_rise line =
+          subst Rising (sym (same_turns line)) (filtered_numbers_below_rise (wr line) n)
 
       -- A transaction that loaded a line and never stored to it found the same source alone and in
       -- the run.
       finding :
           (i line : ℕ) → i < n → (p q : List ℕ) → order ≡ p ++ i ∷ q
           → is_read (transaction_named txs i).actions line ≡ true → wr line i ≡ false
-          → (v : ℕ) × (f : Source) × (IsRightSource first txs i (transaction_named txs i).stamp (transaction_named txs i).warp line v f
+          → (v : ℕ) × (f : Source)
+          × (IsRightSource first txs i (transaction_named txs i).stamp
+          (transaction_named txs i).warp line v f
           × (f ≡ committed_source (last_of (filter (wr line) p))))
       finding i line l p q cut r t =
           let actions = (transaction_named txs i).actions in
-          let P : ℕ → ℕ → Source → Type 0 = IsRightSource first txs i (transaction_named txs i).stamp (transaction_named txs i).warp in
+          let P : ℕ → ℕ → Source
+          → Type 0 = IsRightSource first txs i (transaction_named txs i).stamp
+          (transaction_named txs i).warp in
           let e : load_results actions ≡ load_results_alone (serial_account first txs p) actions =
           equal_accounts.same_loads i l ∙ ap (λ o. (serial_account first txs o).loads i) cut
           ∙ loads_alone first txs i p q start (not_back i p q cut)
           in
           let g =
           read_source
-          (λ line v f. P line v f × (f ≡ committed_source (last_of ((serial_account first txs p).line_writers line))))
+          (λ line v f. P line v f
+          × (f ≡ committed_source (last_of ((serial_account first txs p).line_writers line))))
           line actions r (no_store (last_own_store actions line) t)
           (loads_find_the_same P (serial_account first txs p) actions e (S.loads i l))
-          in
-          (g.0, g.1, (g.2.0, g.2.1 ∙ ap (λ ws. committed_source (last_of ws)) (serial_writers line p)))
+          in (
+            g.0,
+            g.1,
+            (
+              g.2.0,
+              g.2.1
+                  ∙ ap (λ ws. committed_source (last_of ws)) (serial_writers line p),
+            ),
+          )
         where
           no_store : (o : Option ℕ) → is_some o ≡ false → o ≡ None
           no_store None h = refl
@@ -389,9 +435,11 @@ module _ (first : Lines) (txs : List Transaction) (memory : Lines) (S : Serial f
           (line i : ℕ) (p q : List ℕ) → order ≡ p ++ i ∷ q
           → Rising (filter (wr line) p ++ filter (wr line) (i ∷ q))
       parts_rise line i p q cut =
-          subst Rising (ap (filter (wr line)) cut ∙ filter_append (wr line) p (i ∷ q)) (turns_rise line)
+          subst Rising (ap (filter (wr line)) cut ∙ filter_append (wr line) p (i ∷ q))
+          (turns_rise line)
 
-      module _ (a b : ℕ) (a_low : a < n) (b_low : b < n) (line : ℕ) (time : is_earlier txs a b ≡ true) where
+      module _ (a b : ℕ) (a_low : a < n) (b_low : b < n) (line : ℕ)
+          (time : is_earlier txs a b ≡ true) where
         apart : a ≡ b → ⊥
         apart e =
             let t = bit_earlier a b a_low b_low time in
@@ -400,7 +448,8 @@ module _ (first : Lines) (txs : List Transaction) (memory : Lines) (S : Serial f
 
         both_write : wr line a ≡ true → wr line b ≡ true → is_before order a b ≡ true
         both_write ta tb =
-            before_from_rising (wr line) order a b (turns_rise line) ta tb (stands a a_low) (stands b b_low)
+            before_from_rising (wr line) order a b (turns_rise line) ta tb (stands a a_low)
+            (stands b b_low)
             (smaller (cases_order a b))
           where
             smaller : (a ≡ b) ⊎ ((a < b) ⊎ (b < a)) → a < b
@@ -409,10 +458,12 @@ module _ (first : Lines) (txs : List Transaction) (memory : Lines) (S : Serial f
             smaller (inr (inr l)) =
                 let t = bit_earlier a b a_low b_low time in
                 let u = stamp_earlier b a b_low a_low (S.sorted line b a l tb ta) in
-                absurd (omega (arith, t.1, u.1, S.warps a a_low, S.warps b b_low, S.sorted line b a l tb ta))
+                absurd (omega
+                (arith, t.1, u.1, S.warps a a_low, S.warps b b_low, S.sorted line b a l tb ta))
 
         writer_first :
-            wr line a ≡ true → wr line b ≡ false → is_read (transaction_named txs b).actions line ≡ true
+            wr line a ≡ true → wr line b ≡ false
+            → is_read (transaction_named txs b).actions line ≡ true
             → is_before order a b ≡ true
         writer_first ta tb rb =
             let s = split_at b order (stands b b_low) in
@@ -442,7 +493,8 @@ module _ (first : Lines) (txs : List Transaction) (memory : Lines) (S : Serial f
 
                 by_last : (o : Option ℕ) → last_of (filter (wr line) p) ≡ o → has a p ≡ true
                 by_last None k =
-                    let z : commits_seen f ≡ 0 = ap commits_seen (e ∙ ap committed_source k) in absurd (omega (arith, saw))
+                    let z : commits_seen f ≡ 0 = ap commits_seen (e ∙ ap committed_source k)
+                    in absurd (omega (arith, saw))
                 by_last (Some j) k =
                     let z : commits_seen f ≡ suc j = ap commits_seen (e ∙ ap committed_source k) in
                     ⊎_elim (λ h. h)
@@ -456,7 +508,8 @@ module _ (first : Lines) (txs : List Transaction) (memory : Lines) (S : Serial f
                     (or_cases (has a p) (has a (b ∷ q)) (sym (has_append a p (b ∷ q)) ∙ in_whole))
 
         reader_first :
-            wr line a ≡ false → is_read (transaction_named txs a).actions line ≡ true → wr line b ≡ true
+            wr line a ≡ false → is_read (transaction_named txs a).actions line ≡ true
+            → wr line b ≡ true
             → is_before order a b ≡ true
         reader_first ta ra tb =
             let s = split_at a order (stands a a_low) in
@@ -467,10 +520,12 @@ module _ (first : Lines) (txs : List Transaction) (memory : Lines) (S : Serial f
           where
             in_back :
                 (p q : List ℕ) → order ≡ p ++ a ∷ q → (f : Source)
-                → ((j : ℕ) → wr line j ≡ true → j < commits_seen f → stamp_at first txs j < (transaction_named txs a).stamp)
+                → ((j : ℕ) → wr line j ≡ true → j < commits_seen f
+                → stamp_at first txs j < (transaction_named txs a).stamp)
                 → f ≡ committed_source (last_of (filter (wr line) p)) → has b q ≡ true
             in_back p q cut f sooner e =
-                by_cases (or_cases (has b p) (has b (a ∷ q)) (sym (has_append b p (a ∷ q)) ∙ in_whole))
+                by_cases (or_cases (has b p) (has b (a ∷ q))
+                (sym (has_append b p (a ∷ q)) ∙ in_whole))
               where
                 in_whole : has b (p ++ a ∷ q) ≡ true
                 in_whole = subst (λ o. has b o ≡ true) cut (stands b b_low)
@@ -479,10 +534,13 @@ module _ (first : Lines) (txs : List Transaction) (memory : Lines) (S : Serial f
                 not_sooner h =
                     let k = filter_has (wr line) b p h tb in
                     let j = last_some (filter (wr line) p) b k in
-                    let z : commits_seen f ≡ suc j.0 = ap commits_seen (e ∙ ap committed_source j.1) in
-                    let r = rising_left (filter (wr line) p) (filter (wr line) (a ∷ q)) (parts_rise line a p q cut) in
+                    let z : commits_seen f ≡ suc j.0 =
+                    ap commits_seen (e ∙ ap committed_source j.1) in
+                    let r = rising_left (filter (wr line) p) (filter (wr line) (a ∷ q))
+                    (parts_rise line a p q cut) in
                     let top : b ≤ j.0 = last_is_greatest (filter (wr line) p) j.0 b r j.1 k in
-                    let u : stamp_at first txs b < (transaction_named txs a).stamp = sooner b tb (omega arith) in
+                    let u : stamp_at first txs b < (transaction_named txs a).stamp =
+                    sooner b tb (omega arith) in
                     let t = bit_earlier a b a_low b_low time in
                     omega (arith, t.1, S.warps a a_low, S.warps b b_low)
 
@@ -501,14 +559,17 @@ module _ (first : Lines) (txs : List Transaction) (memory : Lines) (S : Serial f
       in_logical_order : IsInLogicalOrder txs order
       in_logical_order a b a_low b_low conflict time =
           stands_first a b a_low b_low conflict.0 time
-          (conflict_kind (wr conflict.0 a) (is_read (transaction_named txs a).actions conflict.0) (wr conflict.0 b)
+          (conflict_kind (wr conflict.0 a) (is_read (transaction_named txs a).actions conflict.0)
+          (wr conflict.0 b)
           (is_read (transaction_named txs b).actions conflict.0) conflict.1)
 
 -- The accounts agree exactly in the orders that keep conflicting transactions in logical time.
 pub accounts_agree :
     (first : Lines) (txs : List Transaction) (memory : Lines) → Serial first txs memory
     → (order : List ℕ) → EachOnce order (length txs)
-    → (EqualAccounts (length txs) (account_of txs memory) (serial_account first txs order) → IsInLogicalOrder txs order)
-    × (IsInLogicalOrder txs order → EqualAccounts (length txs) (account_of txs memory) (serial_account first txs order))
+    → (EqualAccounts (length txs) (account_of txs memory) (serial_account first txs order)
+    → IsInLogicalOrder txs order)
+    × (IsInLogicalOrder txs order
+    → EqualAccounts (length txs) (account_of txs memory) (serial_account first txs order))
 accounts_agree first txs memory S order each =
     (in_logical_order first txs memory S order each, equal first txs memory S order each)

@@ -18,32 +18,40 @@ use Rattle.rules.proofs.Ledgers.{hold_in, hold, hold_writes, History, current_ca
 
 -- A line's count is positive if the line is written, 0 if not, and at most the number of all
 -- stores.
-pub no_stores_unless_written : (actions : List Action) (line : ℕ) → is_written actions line ≡ false → store_count actions line ≡ 0
+pub no_stores_unless_written : (actions : List Action) (line : ℕ) → is_written actions line ≡ false
+    → store_count actions line ≡ 0
 no_stores_unless_written [] line h = refl
 no_stores_unless_written (loaded d ∷ actions) line h = no_stores_unless_written actions line h
-no_stores_unless_written (stored s ∷ actions) line h = step (eqb s.line line) h (no_stores_unless_written actions line)
+no_stores_unless_written (stored s ∷ actions) line h =
+    step (eqb s.line line) h (no_stores_unless_written actions line)
   where
     step :
         (b : Bool) → is_some (cond b (Some s.value) (last_own_store actions line)) ≡ false
-        → (is_written actions line ≡ false → store_count actions line ≡ 0) → cond b 1 0 + store_count actions line ≡ 0
+        → (is_written actions line ≡ false → store_count actions line ≡ 0)
+        → cond b 1 0 + store_count actions line ≡ 0
     step true p rest = absurd (both_ways true p refl)
     step false p rest = let e = rest p in omega arith
 
-pub some_stores_if_written : (actions : List Action) (line : ℕ) → is_written actions line ≡ true → 0 < store_count actions line
+pub some_stores_if_written : (actions : List Action) (line : ℕ) → is_written actions line ≡ true
+    → 0 < store_count actions line
 some_stores_if_written [] line h = absurd (both_ways false refl h)
 some_stores_if_written (loaded d ∷ actions) line h = some_stores_if_written actions line h
-some_stores_if_written (stored s ∷ actions) line h = step (eqb s.line line) h (some_stores_if_written actions line)
+some_stores_if_written (stored s ∷ actions) line h =
+    step (eqb s.line line) h (some_stores_if_written actions line)
   where
     step :
         (b : Bool) → is_some (cond b (Some s.value) (last_own_store actions line)) ≡ true
-        → (is_written actions line ≡ true → 0 < store_count actions line) → 0 < cond b 1 0 + store_count actions line
+        → (is_written actions line ≡ true → 0 < store_count actions line)
+        → 0 < cond b 1 0 + store_count actions line
     step true p rest = omega arith
     step false p rest = let e = rest p in omega arith
 
-pub store_count_at_most_stores : (actions : List Action) (line : ℕ) → store_count actions line ≤ length (transaction_stores actions)
+pub store_count_at_most_stores : (actions : List Action) (line : ℕ)
+    → store_count actions line ≤ length (transaction_stores actions)
 store_count_at_most_stores [] line = omega arith
 store_count_at_most_stores (loaded d ∷ actions) line = store_count_at_most_stores actions line
-store_count_at_most_stores (stored s ∷ actions) line = step (eqb s.line line) (store_count_at_most_stores actions line)
+store_count_at_most_stores (stored s ∷ actions) line =
+    step (eqb s.line line) (store_count_at_most_stores actions line)
   where
     step :
         (b : Bool) → store_count actions line ≤ length (transaction_stores actions)
@@ -55,23 +63,28 @@ module _ (k : Kind) where
   -- The count of each held line is how often its holder's transaction stored to it.
   abbrev pub CountsAgree : Ledger → k.State → Type 0
   CountsAgree l s =
-      (h : ℕ) (tx : Transaction) → l.current h ≡ Some tx → (line : ℕ) → is_written tx.actions line ≡ true
+      (h : ℕ) (tx : Transaction) → l.current h ≡ Some tx → (line : ℕ)
+      → is_written tx.actions line ≡ true
       → k.stores s line ≡ store_count tx.actions line
 
-  module _ (first lines : Lines) (l : Ledger) (s s' : k.State) (H : History k first l lines s) (T : CountsAgree l s) where
+  module _ (first lines : Lines) (l : Ledger) (s s' : k.State) (H : History k first l lines s)
+      (T : CountsAgree l s) where
     -- A line that a transaction stored to.
     held :
-        (h : ℕ) (tx : Transaction) → l.current h ≡ Some tx → (line : ℕ) → is_written tx.actions line ≡ true
+        (h : ℕ) (tx : Transaction) → l.current h ≡ Some tx → (line : ℕ)
+        → is_written tx.actions line ≡ true
         → hold l h line ≡ Some tx.stamp
     held h tx e line w = ap (λ o. hold_in o line) e ∙ hold_writes tx line w
 
     low :
-        (h : ℕ) (tx : Transaction) → l.current h ≡ Some tx → (line : ℕ) → is_written tx.actions line ≡ true
+        (h : ℕ) (tx : Transaction) → l.current h ≡ Some tx → (line : ℕ)
+        → is_written tx.actions line ≡ true
         → line < line_limit
     low h tx e line w = (H.core.holder h line tx.stamp (held h tx e line w)).line_low
 
     owned :
-        (h : ℕ) (tx : Transaction) → l.current h ≡ Some tx → (line : ℕ) → is_written tx.actions line ≡ true
+        (h : ℕ) (tx : Transaction) → l.current h ≡ Some tx → (line : ℕ)
+        → is_written tx.actions line ≡ true
         → k.owner s line ≡ Some h
     owned h tx e line w = (H.core.holder h line tx.stamp (held h tx e line w)).owns
 
@@ -79,10 +92,13 @@ module _ (k : Kind) where
     pub counts_after_load :
         ((line : ℕ) → line < line_limit → k.stores s' line ≡ k.stores s line)
         → (w : ℕ) (action : Transaction → Action)
-        → ((tx : Transaction) (line : ℕ) → store_count (action tx ∷ tx.actions) line ≡ store_count tx.actions line)
-        → ((tx : Transaction) (line : ℕ) → is_written (action tx ∷ tx.actions) line ≡ is_written tx.actions line)
+        → ((tx : Transaction) (line : ℕ)
+        → store_count (action tx ∷ tx.actions) line ≡ store_count tx.actions line)
+        → ((tx : Transaction) (line : ℕ)
+        → is_written (action tx ∷ tx.actions) line ≡ is_written tx.actions line)
         → (tx : Transaction) → l.current w ≡ Some tx
-        → CountsAgree (with_current l w (option_map (λ t. with_action t (action t)) (l.current w))) s'
+        → CountsAgree (with_current l w (option_map (λ t. with_action t (action t)) (l.current w)))
+        s'
     counts_after_load same w action times wrote tx mine h t e line x =
         step (current_cases l w (option_map (λ t. with_action t (action t)) (l.current w)) h t e)
       where
@@ -91,10 +107,12 @@ module _ (k : Kind) where
             ⊎ ((h ≡ w → ⊥) × (l.current h ≡ Some t))
             → k.stores s' line ≡ store_count t.actions line
         step (inl p) =
-            let q : Some (with_action tx (action tx)) ≡ Some t = sym (ap (option_map (λ t. with_action t (action t))) mine) ∙ p.1 in
+            let q : Some (with_action tx (action tx)) ≡ Some t =
+            sym (ap (option_map (λ t. with_action t (action t))) mine) ∙ p.1 in
             let one : with_action tx (action tx) ≡ t = cc in
             let y : is_written tx.actions line ≡ true =
-            sym (wrote tx line) ∙ subst (λ (u : Transaction). is_written u.actions line ≡ true) (sym one) x
+            sym (wrote tx line) ∙ subst (λ (u : Transaction). is_written u.actions line ≡ true)
+            (sym one) x
             in
             same line (low w tx mine line y) ∙ T w tx mine line y ∙ sym (times tx line)
             ∙ ap (λ (u : Transaction). store_count u.actions line) one
@@ -106,12 +124,16 @@ module _ (k : Kind) where
         → ((line : ℕ) → line < line_limit → (line ≡ at → ⊥) → k.stores s' line ≡ k.stores s line)
         → k.stores s' at ≡ suc (store_count tx.actions at)
         → ((h : ℕ) → k.owner s at ≡ Some h → h ≡ w)
-        → CountsAgree (with_current l w (option_map (λ t. with_action t (stored (log_entry at v))) (l.current w))) s'
+        → CountsAgree
+        (with_current l w
+        (option_map (λ t. with_action t (stored (log_entry at v))) (l.current w))) s'
     counts_after_store w at v tx mine same one_more only h t e line x =
-        step (current_cases l w (option_map (λ t. with_action t (stored (log_entry at v))) (l.current w)) h t e)
+        step (current_cases l w
+        (option_map (λ t. with_action t (stored (log_entry at v))) (l.current w)) h t e)
       where
         others :
-            (line ≡ at) ⊎ (line ≡ at → ⊥) → is_written (stored (log_entry at v) ∷ tx.actions) line ≡ true
+            (line ≡ at) ⊎ (line ≡ at → ⊥)
+            → is_written (stored (log_entry at v) ∷ tx.actions) line ≡ true
             → k.stores s' line ≡ store_count (stored (log_entry at v) ∷ tx.actions) line
         others (inl p) y =
             ap (k.stores s') p ∙ one_more
@@ -119,7 +141,8 @@ module _ (k : Kind) where
             ∙ ap (λ z. cond (eqb at z) 1 0 + store_count tx.actions z) (sym p)
           where
             grow : (n : ℕ) → suc n ≡ cond (eqb at at) 1 0 + n
-            grow n = let b : ◌≡◌ {A = ℕ} (cond (eqb at at) 1 0) 1 = ap (λ b. cond b 1 0) (eqb_refl at) in omega arith
+            grow n = let b : ◌≡◌ {A = ℕ} (cond (eqb at at) 1 0) 1 =
+                ap (λ b. cond b 1 0) (eqb_refl at) in omega arith
         others (inr p) y =
             let z : eqb at line ≡ false = ne_eqb at line (λ q. p (sym q)) in
             let y' : is_written tx.actions line ≡ true =
@@ -131,7 +154,8 @@ module _ (k : Kind) where
             omega arith
 
         step :
-            ((h ≡ w) × (option_map (λ t. with_action t (stored (log_entry at v))) (l.current w) ≡ Some t))
+            ((h ≡ w) × (option_map (λ t. with_action t (stored (log_entry at v)))
+            (l.current w) ≡ Some t))
             ⊎ ((h ≡ w → ⊥) × (l.current h ≡ Some t))
             → k.stores s' line ≡ store_count t.actions line
         step (inl p) =
@@ -139,7 +163,8 @@ module _ (k : Kind) where
             sym (ap (option_map (λ t. with_action t (stored (log_entry at v)))) mine) ∙ p.1
             in
             let one : with_action tx (stored (log_entry at v)) ≡ t = cc in
-            others (cases_eq line at) (subst (λ (u : Transaction). is_written u.actions line ≡ true) (sym one) x)
+            others (cases_eq line at)
+            (subst (λ (u : Transaction). is_written u.actions line ≡ true) (sym one) x)
             ∙ ap (λ (u : Transaction). store_count u.actions line) one
         step (inr p) =
             same line (low h t p.1 line x)
@@ -150,7 +175,8 @@ module _ (k : Kind) where
     pub counts_after_release :
         (w : ℕ) (gone : List ℕ) (o : Option Transaction)
         → ((line : ℕ) → has line gone ≡ true → (t : ℕ) × (hold l w line ≡ Some t))
-        → ((line : ℕ) → line < line_limit → has line gone ≡ false → k.stores s' line ≡ k.stores s line)
+        → ((line : ℕ) → line < line_limit → has line gone ≡ false
+        → k.stores s' line ≡ k.stores s line)
         → ((tx : Transaction) → o ≡ Some tx → (line : ℕ) → is_written tx.actions line ≡ true
         → k.stores s' line ≡ store_count tx.actions line)
         → CountsAgree (with_current l w o) s'
@@ -170,10 +196,12 @@ module _ (k : Kind) where
             → k.stores s' line ≡ store_count t.actions line
         step (inl p) = left t p.1 line x
         step (inr p) =
-            same line (low h t p.1 line x) (not_gone p.0 p.1 (has line gone) refl) ∙ T h t p.1 line x
+            same line (low h t p.1 line x) (not_gone p.0 p.1 (has line gone) refl)
+            ∙ T h t p.1 line x
 
   -- A new transaction has stored nothing.
-  pub counts_after_begin : (l : Ledger) (s : k.State) → CountsAgree l s → (w stamp : ℕ) → CountsAgree (with_begun l w stamp) s
+  pub counts_after_begin : (l : Ledger) (s : k.State) → CountsAgree l s → (w stamp : ℕ)
+      → CountsAgree (with_begun l w stamp) s
   counts_after_begin l s T w stamp h t e line x =
       step (current_cases l w (Some (record { stamp = stamp; warp = w; actions = [] })) h t e)
     where
@@ -184,5 +212,6 @@ module _ (k : Kind) where
       step (inl p) =
           let q = p.1 in
           let one : record { stamp = stamp; warp = w; actions = [] } ≡ t = cc in
-          absurd (both_ways false refl (subst (λ (u : Transaction). is_written u.actions line ≡ true) (sym one) x))
+          absurd (both_ways false refl
+          (subst (λ (u : Transaction). is_written u.actions line ≡ true) (sym one) x))
       step (inr p) = T h t p.1 line x

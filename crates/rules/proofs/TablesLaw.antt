@@ -28,7 +28,8 @@ module _
         (I.history.core.holder h line o.0.stamp
         (ap (λ x. hold_in x line) o.1 ∙ hold_writes o.0 line o.2)).owns
 
-    free : (line : ℕ) → line < line_limit → ((h : ℕ) → IsHolder l line h → ⊥) → k.owner m.book line ≡ None
+    free : (line : ℕ) → line < line_limit → ((h : ℕ) → IsHolder l line h → ⊥)
+        → k.owner m.book line ≡ None
     free line low none = step (k.owner m.book line) refl
       where
         step : (o : Option ℕ) → k.owner m.book line ≡ o → o ≡ None
@@ -38,7 +39,8 @@ module _
             let q = holds_line k first l h line t.0 t.1 in
             absurd (none h (q.0, q.1, q.2))
 
-    uncounted : (line : ℕ) → line < line_limit → k.owner m.book line ≡ None → k.stores m.book line ≡ 0
+    uncounted : (line : ℕ) → line < line_limit → k.owner m.book line ≡ None
+        → k.stores m.book line ≡ 0
     uncounted line low e =
         eqb-true (k.stores m.book line) 0
         (not-false (eqb (k.stores m.book line) 0) (step (is_reserved k m.book line) refl))
@@ -65,7 +67,8 @@ module _
 
 pub law_of_tables : (k : Kind) → LawOfTables k
 law_of_tables k keeps policy lines book good stamps fine calls =
-    tables k keeps lines (λ v n. Unit {0}) (run policy (new_machine k lines book stamps) calls).machine
+    tables k keeps lines (λ v n. Unit {0})
+    (run policy (new_machine k lines book stamps) calls).machine
     (ledger_of (run policy (new_machine k lines book stamps) calls).events)
     (run_keeps k lines keeps policy (Unit {0}) (λ m w r q. inl tt) calls
     (record { machine = new_machine k lines book stamps; events = [] })

@@ -9,8 +9,8 @@ use Rattle.book.specs.declared.book.LineState.{LineState}
 use Rattle.rules.specs.declared.verdict.Verdict.{Verdict}
 use Rattle.rules.specs.declared.verdict.Verdict.TheVariants.{OwnLine, Gone as VerdictGone, MustWait}
 use Rattle.rules.specs.declared.verdict.Verdict.TheVariants.{GoOn}
-use Rattle.rules.specs.Access.{by_owner, by_mark, retried, is_owner}
-use Rattle.rules.specs.Access.{decide, verdict_with_room}
+use Rattle.rules.specs.Access.{verdict_by_owner, verdict_by_read_mark, retry_verdict, is_owner}
+use Rattle.rules.specs.Access.{access_verdict, verdict_with_room}
 
 -- A store may go on only if the line has no later read mark and has a slot.
 abbrev pub Storable : Access → LineState → Time → Type 0
@@ -43,7 +43,7 @@ VerdictMeans P access t time GoOn = MayGoOn access t time
 module _ (P : Type 0) (t : LineState) (time : Time) (unwritten : t.write_stamp ≤ time.0) where
   owner_verdict_means :
       (access : Access) → Unmarked access t time → (o : Option ℕ) → t.owner ≡ o
-      → VerdictMeans P access t time (by_owner o access t time)
+      → VerdictMeans P access t time (verdict_by_owner o access t time)
   owner_verdict_means Read st None e = record { nobody = e; unwritten = unwritten; storable = tt }
   owner_verdict_means (Write value) st None e =
       cond_both t.has_slot GoOn (VerdictGone NoSlot time.0) (VerdictMeans P (Write value) t time)
@@ -51,13 +51,16 @@ module _ (P : Type 0) (t : LineState) (time : Time) (unwritten : t.write_stamp �
   owner_verdict_means access st (Some v) e =
       record { holder = v; owned = e; unwritten = unwritten }
 
-  mark_verdict_means : (access : Access) → VerdictMeans P access t time (by_mark access t time)
+  mark_verdict_means : (access : Access)
+      → VerdictMeans P access t time (verdict_by_read_mark access t time)
   mark_verdict_means Read = owner_verdict_means Read tt t.owner refl
   mark_verdict_means (Write value) =
-      cond_both _ _ _ (VerdictMeans P (Write value) t time) (λ e. tt) (λ e. owner_verdict_means (Write value) e t.owner refl)
+      cond_both _ _ _ (VerdictMeans P (Write value) t time) (λ e. tt)
+      (λ e. owner_verdict_means (Write value) e t.owner refl)
 
 pub retried_verdict_means :
-    (P : Type 0) (access : Access) (t : LineState) (time : Time) → VerdictMeans P access t time (retried access t time)
+    (P : Type 0) (access : Access) (t : LineState) (time : Time)
+    → VerdictMeans P access t time (retry_verdict access t time)
 retried_verdict_means P access t time =
     cond_both _ _ _ (VerdictMeans P access t time) (λ e. tt)
     (λ e. mark_verdict_means P t time (ltb-false time.0 t.write_stamp e) access)
@@ -68,14 +71,17 @@ mine None w e = absurd (both_ways false refl e)
 mine (Some v) w e = ap Some (eqb-true v w e)
 
 pub decided_verdict_means :
-    (access : Access) (t : LineState) (time : Time) → VerdictMeans (t.owner ≡ Some time.1) access t time (decide access t time)
+    (access : Access) (t : LineState) (time : Time)
+    → VerdictMeans (t.owner ≡ Some time.1) access t time (access_verdict access t time)
 decided_verdict_means access t time =
-    cond_both _ _ _ (VerdictMeans (t.owner ≡ Some time.1) access t time) (λ e. mine t.owner time.1 e)
+    cond_both _ _ _ (VerdictMeans (t.owner ≡ Some time.1) access t time)
+    (λ e. mine t.owner time.1 e)
     (λ e. retried_verdict_means (t.owner ≡ Some time.1) access t time)
 
 -- A full queue only replaces a wait by an abort.
 pub verdict_with_room_means :
-    (P : Type 0) (access : Access) (t : LineState) (time : Time) (full : Bool) (stamp : ℕ) (v : Verdict)
+    (P : Type 0) (access : Access) (t : LineState) (time : Time) (full : Bool) (stamp : ℕ)
+    (v : Verdict)
     → VerdictMeans P access t time v → VerdictMeans P access t time (verdict_with_room full stamp v)
 verdict_with_room_means P access t time full stamp OwnLine p = p
 verdict_with_room_means P access t time full stamp (VerdictGone cause next) p = tt

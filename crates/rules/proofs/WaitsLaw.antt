@@ -28,7 +28,8 @@ counted_most p (suc n) = step (p n) (counted_most p n)
     step true h = omega arith
     step false h = omega arith
 
-counted_less : (p q : ℕ → Bool) → ((x : ℕ) → p x ≡ true → q x ≡ true) → (n : ℕ) → count_below p n ≤ count_below q n
+counted_less : (p q : ℕ → Bool) → ((x : ℕ) → p x ≡ true → q x ≡ true) → (n : ℕ)
+    → count_below p n ≤ count_below q n
 counted_less p q to zero = omega arith
 counted_less p q to (suc n) = step (p n) refl (q n) refl (counted_less p q to n)
   where
@@ -41,12 +42,14 @@ counted_less p q to (suc n) = step (p n) refl (q n) refl (counted_less p q to n)
     step false e false f h = omega arith
 
 counted_fewer :
-    (p q : ℕ → Bool) → ((x : ℕ) → p x ≡ true → q x ≡ true) → (n z : ℕ) → z < n → p z ≡ false → q z ≡ true
+    (p q : ℕ → Bool) → ((x : ℕ) → p x ≡ true → q x ≡ true) → (n z : ℕ) → z < n → p z ≡ false
+    → q z ≡ true
     → count_below p n < count_below q n
 counted_fewer p q to zero z l e f = absurd (omega arith)
 counted_fewer p q to (suc n) z l e f = by_place (cases_eq z n) (counted_fewer p q to n z)
   where
-    here : (a b : Bool) → a ≡ false → b ≡ true → cond a 1 0 + count_below p n < cond b 1 0 + count_below q n
+    here : (a b : Bool) → a ≡ false → b ≡ true
+        → cond a 1 0 + count_below p n < cond b 1 0 + count_below q n
     here true b x y = absurd (both_ways true x refl)
     here false true x y = let h = counted_less p q to n in omega arith
     here false false x y = absurd (both_ways false refl y)
@@ -72,7 +75,8 @@ counted_not_all p n z l e =
     let b = counted_most (λ x. true) n in
     omega arith
 
-module _ (k : Kind) (first : Lines) (m : Machine k) (l : Ledger) (I : Invariant k first (λ v n. ⊥) m l) where
+module _ (k : Kind) (first : Lines) (m : Machine k) (l : Ledger)
+    (I : Invariant k first (λ v n. ⊥) m l) where
   -- A waiting warp waits for the one holder of its line.
   next : (w : ℕ) → is_waiting_now m w ≡ true → (h : ℕ) × WaitsFor m l w h
   next w p =
@@ -150,7 +154,8 @@ module _ (k : Kind) (first : Lines) (m : Machine k) (l : Ledger) (I : Invariant 
   waits_end w p =
       let r = leads (suc (count_below (lower w) size)) w (omega arith) in
       let q = I.warp_rows w in
-      let inside : w < size = busy_low m w (Rattle.rules.proofs.Logs.waiting_busy (warp_row_of m w).phase p) in
+      let inside : w < size =
+      busy_low m w (Rattle.rules.proofs.Logs.waiting_busy (warp_row_of m w).phase p) in
       let few : count_below (lower w) size < size =
       counted_not_all (lower w) size w inside
       (le-ltb (warp_row_of m w).stamp (warp_row_of m w).stamp (omega arith))
@@ -158,7 +163,8 @@ module _ (k : Kind) (first : Lines) (m : Machine k) (l : Ledger) (I : Invariant 
       (r.0, r.1, let a = r.2 in omega arith)
 
 pub law_of_waits : (k : Kind) → LawOfWaits k
-law_of_waits k keeps policy covers lines book good stamps calls = by_fault (making_fault k book stamps) refl
+law_of_waits k keeps policy covers lines book good stamps calls =
+    by_fault (making_fault k book stamps) refl
   where
     by_fault :
         (o : Option Fault) → making_fault k book stamps ≡ o
@@ -172,7 +178,8 @@ law_of_waits k keeps policy covers lines book good stamps calls = by_fault (maki
         (new_keeps k keeps ⊥ lines book good stamps e))
     by_fault (Some f) e =
         let kept =
-        refused_stays k policy calls (record { machine = new_machine k lines book stamps; events = [] })
+        refused_stays k policy calls
+        (record { machine = new_machine k lines book stamps; events = [] })
         (ap (λ o. first_warp_rows o stamps) e) refl
         in
         let none : (run policy (new_machine k lines book stamps) calls).machine.warp_rows ≡ [] =

@@ -33,28 +33,28 @@ stamp_past (Write value) t = max t.write_stamp t.read_mark.0 + 1
 
 -- Fifth step, nobody has the line reserved: a load goes on, and so does a store if the line has a
 -- slot. Without a slot the store aborts and keeps its stamp.
-abbrev pub unowned : Access → LineState → Time → Verdict
-unowned Read t time = GoOn
-unowned (Write value) t time = cond t.has_slot GoOn (VerdictGone NoSlot time.0)
+abbrev pub verdict_on_free_line : Access → LineState → Time → Verdict
+verdict_on_free_line Read t time = GoOn
+verdict_on_free_line (Write value) t time = cond t.has_slot GoOn (VerdictGone NoSlot time.0)
 
 -- Fourth step: if another warp has the line reserved, the request must wait.
-abbrev pub by_owner : Option ℕ → Access → LineState → Time → Verdict
-by_owner None access t time = unowned access t time
-by_owner (Some v) access t time = MustWait
+abbrev pub verdict_by_owner : Option ℕ → Access → LineState → Time → Verdict
+verdict_by_owner None access t time = verdict_on_free_line access t time
+verdict_by_owner (Some v) access t time = MustWait
 
 -- Third step: a store aborts if a logically later transaction has read the line.
-abbrev pub by_mark : Access → LineState → Time → Verdict
-by_mark Read t time = by_owner t.owner Read t time
-by_mark (Write value) t time =
+abbrev pub verdict_by_read_mark : Access → LineState → Time → Verdict
+verdict_by_read_mark Read t time = verdict_by_owner t.owner Read t time
+verdict_by_read_mark (Write value) t time =
     cond (earlier time t.read_mark) (VerdictGone ReadLater (stamp_past (Write value) t))
-    (by_owner t.owner (Write value) t time)
+    (verdict_by_owner t.owner (Write value) t time)
 
 -- Second step: a load or a store aborts if a logically later transaction has written the line. A
 -- waiting request is retried from this step on.
-abbrev pub retried : Access → LineState → Time → Verdict
-retried access t time =
+abbrev pub retry_verdict : Access → LineState → Time → Verdict
+retry_verdict access t time =
     cond (nat_lt time.0 t.write_stamp) (VerdictGone WrittenLater (stamp_past access t))
-    (by_mark access t time)
+    (verdict_by_read_mark access t time)
 
 -- The warp has the line reserved.
 abbrev pub is_owner : Option ℕ → ℕ → Bool
@@ -63,8 +63,8 @@ is_owner (Some v) w = v == w
 
 -- First step: if the warp has the line reserved itself, the request goes on. This is the decision
 -- by all steps, in their order.
-abbrev pub decide : Access → LineState → Time → Verdict
-decide access t time = cond (is_owner t.owner time.1) OwnLine (retried access t time)
+abbrev pub access_verdict : Access → LineState → Time → Verdict
+access_verdict access t time = cond (is_owner t.owner time.1) OwnLine (retry_verdict access t time)
 
 -- Only a request that must wait needs room in the queue. Without room its transaction is aborted,
 -- and keeps its stamp.

@@ -13,12 +13,12 @@ use Rattle.rules.specs.State.{with_queue}
 use Rattle.rules.specs.declared.verdict.Verdict.{Verdict}
 use Rattle.rules.specs.declared.verdict.Verdict.TheVariants.{OwnLine, Gone as VerdictGone, MustWait}
 use Rattle.rules.specs.declared.verdict.Verdict.TheVariants.{GoOn}
-use Rattle.rules.specs.Access.{line_state, retried}
+use Rattle.rules.specs.Access.{line_state, retry_verdict}
 use Rattle.rules.specs.Queue.{Policy, queue_without, pending_access}
 use Rattle.rules.specs.Serving.{served_on_free_line}
 
 -- What some retries leave: the machine, and the requests that were settled, in order.
-pub record AfterTries (k : Kind) : Type 0 where
+pub record AfterRetries (k : Kind) : Type 0 where
   pub machine : Machine k
   pub settled : List SettledRequest
 
@@ -45,7 +45,7 @@ module _ {k : Kind} where
       with_warp_row withdrawn w (with_outcome (warp_row_of withdrawn w) outcome)
 
   -- A request is settled, and is added to the settled ones.
-  abbrev pub with_settled : AfterTries k → Machine k → ℕ → ℕ → Access → Outcome → AfterTries k
+  abbrev pub with_settled : AfterRetries k → Machine k → ℕ → ℕ → Access → Outcome → AfterRetries k
   with_settled st m w line access outcome =
       record {
         machine = after_settling m w outcome;
@@ -54,29 +54,29 @@ module _ {k : Kind} where
 
   -- A retry, by its verdict. A request that must wait keeps its place in the queue. A retry skips
   -- the first access step, so its verdict is never `OwnLine`.
-  unfoldable pub after_try : AfterTries k → ℕ → ℕ → Access → Verdict → AfterTries k
-  after_try st w line access OwnLine = st
-  after_try st w line access (VerdictGone cause next) =
+  unfoldable pub after_retry : AfterRetries k → ℕ → ℕ → Access → Verdict → AfterRetries k
+  after_retry st w line access OwnLine = st
+  after_retry st w line access (VerdictGone cause next) =
       with_settled st st.machine w line access (OutcomeGone cause next)
-  after_try st w line access MustWait = st
-  after_try st w line access GoOn =
+  after_retry st w line access MustWait = st
+  after_retry st w line access GoOn =
       let served = served_on_free_line st.machine w line access in
       with_settled st served.machine w line access served.outcome
 
   -- One warp's turn at a line, given what it waits to do there. It is passed over if that is
   -- nothing.
-  unfoldable pub after_turn_with : AfterTries k → ℕ → ℕ → Option Access → AfterTries k
+  unfoldable pub after_turn_with : AfterRetries k → ℕ → ℕ → Option Access → AfterRetries k
   after_turn_with st w line None = st
   after_turn_with st w line (Some access) =
-      after_try st w line access
-      (retried access (line_state k st.machine.book line) (time_of st.machine w))
+      after_retry st w line access
+      (retry_verdict access (line_state k st.machine.book line) (time_of st.machine w))
 
   -- One warp's turn at a line. What it waits to do is looked up when its turn comes.
-  abbrev pub after_turn : ℕ → AfterTries k → ℕ → AfterTries k
+  abbrev pub after_turn : ℕ → AfterRetries k → ℕ → AfterRetries k
   after_turn line st w = after_turn_with st w line (pending_access st.machine w line)
 
   -- The turns of all warps at a line.
-  unfoldable pub after_turns : Policy k → AfterTries k → ℕ → AfterTries k
+  unfoldable pub after_turns : Policy k → AfterRetries k → ℕ → AfterRetries k
   after_turns policy st line = fold (after_turn line) st (policy.turns st.machine line)
 
   -- The machine after some lines are released.
@@ -88,17 +88,17 @@ module _ {k : Kind} where
   without_lines m w warp_row lines = with_warp_row (with_lines_released m lines) w warp_row
 
   -- The requests that wait for some lines are retried, line by line.
-  abbrev pub after_turns_at_lines : Policy k → Machine k → List ℕ → AfterTries k
+  abbrev pub after_turns_at_lines : Policy k → Machine k → List ℕ → AfterRetries k
   after_turns_at_lines policy m lines =
       fold (after_turns policy) (record { machine = m; settled = [] }) lines
 
   -- A warp gives up some lines in three steps: they are released, its row is replaced, and the
   -- requests that wait for them are retried.
-  unfoldable pub after_giving_up : Policy k → Machine k → ℕ → WarpRow → List ℕ → AfterTries k
+  unfoldable pub after_giving_up : Policy k → Machine k → ℕ → WarpRow → List ℕ → AfterRetries k
   after_giving_up policy m w warp_row lines =
       after_turns_at_lines policy (without_lines m w warp_row lines) lines
 
   -- A transaction ends: its warp gives up the lines that its log stores to, and is idle at a stamp.
-  unfoldable pub after_end : Policy k → Machine k → ℕ → ℕ → AfterTries k
+  unfoldable pub after_end : Policy k → Machine k → ℕ → ℕ → AfterRetries k
   after_end policy m w stamp =
       after_giving_up policy m w (idle_row stamp) (logged_lines (warp_row_of m w).log)

@@ -38,9 +38,11 @@ sample_ledger s = ledger_of (sample_run s).events
 abbrev pub sample_commits : Sample → List Transaction
 sample_commits s = (sample_ledger s).committed
 
--- Two transactions, between an initial and a final memory, conflict. The first is earlier in logical
+-- Two transactions, between an initial and a final memory, conflict. The first is earlier in
+-- logical
 -- time, and the accounts are equal only if it is executed first.
-pub record TransactionsAgreeInOneOrder (initial : Lines) (txs : List Transaction) (final : Lines) (a b : ℕ) : Type 0 where
+pub record TransactionsAgreeInOneOrder (initial : Lines) (txs : List Transaction) (final : Lines)
+    (a b : ℕ) : Type 0 where
   pub conflict : Conflict txs a b
   pub in_time : is_earlier txs a b ≡ true
   pub agrees : EqualAccounts 2 (account_of txs final) (serial_account initial txs (a ∷ b ∷ []))
@@ -49,7 +51,8 @@ pub record TransactionsAgreeInOneOrder (initial : Lines) (txs : List Transaction
 -- So it is with the two transactions that a run commits.
 pub record RunAgreesInOneOrder (s : Sample) (a b : ℕ) : Type 0 where
   pub commits_two : length (sample_commits s) ≡ 2
-  pub apart : TransactionsAgreeInOneOrder (word_lines s.values) (sample_commits s) (sample_run s).machine.lines a b
+  pub apart : TransactionsAgreeInOneOrder (word_lines s.values) (sample_commits s)
+      (sample_run s).machine.lines a b
 
 -- Two transactions store to one line.
 abbrev pub two_writers : Sample
@@ -57,7 +60,8 @@ two_writers =
     record {
       stamps = 0 ∷ 5 ∷ [];
       values = 7 ∷ [];
-      calls = begin_by 0 ∷ store_by 0 0 8 ∷ commit_by 0 ∷ begin_by 1 ∷ store_by 1 0 9 ∷ commit_by 1 ∷ [];
+      calls = begin_by 0 ∷ store_by 0 0 8 ∷ commit_by 0 ∷ begin_by 1 ∷ store_by 1 0 9 ∷ commit_by 1
+          ∷ [];
     }
 
 -- They must be executed in the order of logical time.
@@ -70,7 +74,8 @@ writer_reader =
     record {
       stamps = 0 ∷ 5 ∷ [];
       values = 7 ∷ [];
-      calls = begin_by 0 ∷ store_by 0 0 8 ∷ commit_by 0 ∷ begin_by 1 ∷ load_by 1 0 ∷ commit_by 1 ∷ [];
+      calls = begin_by 0 ∷ store_by 0 0 8 ∷ commit_by 0 ∷ begin_by 1 ∷ load_by 1 0 ∷ commit_by 1
+          ∷ [];
     }
 
 -- The writer must be executed first.
@@ -83,7 +88,8 @@ reader_writer =
     record {
       stamps = 0 ∷ 5 ∷ [];
       values = 7 ∷ [];
-      calls = begin_by 0 ∷ begin_by 1 ∷ load_by 0 0 ∷ store_by 1 0 8 ∷ commit_by 1 ∷ commit_by 0 ∷ [];
+      calls = begin_by 0 ∷ begin_by 1 ∷ load_by 0 0 ∷ store_by 1 0 8 ∷ commit_by 1 ∷ commit_by 0
+          ∷ [];
     }
 
 -- The reader must be executed first: logical time decides, and not the order of the commits.
@@ -96,7 +102,8 @@ same_stamp =
     record {
       stamps = 5 ∷ [];
       values = 7 ∷ [];
-      calls = begin_by 0 ∷ load_by 0 0 ∷ commit_by 0 ∷ begin_by 0 ∷ store_by 0 0 9 ∷ commit_by 0 ∷ [];
+      calls = begin_by 0 ∷ load_by 0 0 ∷ commit_by 0 ∷ begin_by 0 ∷ store_by 0 0 9 ∷ commit_by 0
+          ∷ [];
     }
 
 -- They must be executed in the order of their commits.
@@ -109,7 +116,8 @@ settled_load =
     record {
       stamps = 0 ∷ 3 ∷ [];
       values = 7 ∷ [];
-      calls = begin_by 0 ∷ begin_by 1 ∷ store_by 0 0 8 ∷ load_by 1 0 ∷ commit_by 0 ∷ fetch_by 1 ∷ commit_by 1 ∷ [];
+      calls = begin_by 0 ∷ begin_by 1 ∷ store_by 0 0 8 ∷ load_by 1 0 ∷ commit_by 0 ∷ fetch_by 1
+          ∷ commit_by 1 ∷ [];
     }
 
 -- The load reads the value of that commit.
@@ -117,7 +125,8 @@ abbrev pub SettledLoadSeesCommit : Type 0
 SettledLoadSeesCommit =
     sample_commits settled_load
     ≡ record { stamp = 0; warp = 0; actions = stored (log_entry 0 8) ∷ [] }
-    ∷ record { stamp = 3; warp = 1; actions = loaded (load_action 0 8 (committed_store 0)) ∷ [] } ∷ []
+    ∷ record { stamp = 3; warp = 1; actions = loaded (load_action 0 8 (committed_store 0)) ∷ [] }
+    ∷ []
 
 -- Three warps wait in a chain: warp 3 for warp 2, warp 2 for warp 1, and warp 1 for warp 0, which
 -- does not wait.
@@ -194,8 +203,18 @@ EarlyStampBreaksWaits =
 -- stored.
 abbrev pub lost_update : List Transaction
 lost_update =
-    record { stamp = 0; warp = 0; actions = stored (log_entry 0 8) ∷ loaded (load_action 0 7 initial_memory) ∷ [] }
-    ∷ record { stamp = 0; warp = 1; actions = stored (log_entry 0 9) ∷ loaded (load_action 0 7 initial_memory) ∷ [] } ∷ []
+    record {
+      stamp = 0;
+      warp = 0;
+      actions = stored (log_entry 0 8)
+          ∷ loaded (load_action 0 7 initial_memory) ∷ [];
+    }
+    ∷ record {
+      stamp = 0;
+      warp = 1;
+      actions = stored (log_entry 0 9)
+          ∷ loaded (load_action 0 7 initial_memory) ∷ [];
+    } ∷ []
 
 -- An order explains these transactions: executed alone in it, they give their account.
 abbrev pub Explains : List ℕ → Type 0

@@ -81,8 +81,10 @@ pub record FetchReturns (before : List Event) (w : ℕ) (answer : Answer) : Type
   pub settled_there : last_settled_request settling_event.settled w ≡ Some request
   pub none_since : last_settled_request (settled_requests since) w ≡ None
   pub answered : answer ≡ answer_of request.outcome
-  pub joined : HasJoined ((ledger_of (earlier ++ settling_event ∷ [])).current w) request request.outcome
-  pub unchanged : (ledger_of before).current w ≡ (ledger_of (earlier ++ settling_event ∷ [])).current w
+  pub joined : HasJoined ((ledger_of (earlier ++ settling_event ∷ [])).current w) request
+      request.outcome
+  pub unchanged :
+      (ledger_of before).current w ≡ (ledger_of (earlier ++ settling_event ∷ [])).current w
 
 -- So it is with every fetch that is neither refused nor told to wait.
 abbrev pub FetchesReturn : List Event → Type 0
@@ -207,11 +209,13 @@ module _ (k : Kind) where
   -- So every run of the product's machine keeps the law of accounts and the law of waits.
   abbrev pub ProductLawful : Type 0
   ProductLawful =
-      Keeps k → (lines : Lines) (book : k.State) → k.Good book → (stamps : List ℕ) (calls : List Call)
+      Keeps k → (lines : Lines) (book : k.State) → k.Good book
+      → (stamps : List ℕ) (calls : List Call)
       → IsLawful lines (run (product_policy k) (new_machine k lines book stamps) calls)
 
   -- A refused call returns its fault and changes nothing: no warp, log, queue, book or line.
   abbrev pub RefusalsChangeNothing : Type 0
   RefusalsChangeNothing =
-      (policy : Policy k) (m : Machine k) (call : Call) (fault : Fault) → fault_of m call ≡ Some fault
+      (policy : Policy k) (m : Machine k) (call : Call) (fault : Fault)
+      → fault_of m call ≡ Some fault
       → step policy m call ≡ refused_step m fault

@@ -12,12 +12,12 @@ use Rattle.rules.specs.State.{WarpRow, Machine, idle_row}
 use Rattle.rules.specs.Refusals.{fault_unless}
 
 -- The first of some stamps that is past the end of the clock, if any.
-abbrev pub first_late : List ℕ → Option ℕ
-first_late stamps = find (λ stamp. nat_lt last_stamp stamp) stamps
+abbrev pub first_late_stamp : List ℕ → Option ℕ
+first_late_stamp stamps = find (λ stamp. nat_lt last_stamp stamp) stamps
 
 -- The fault for such a stamp.
-abbrev pub late_fault : Option ℕ → Option Fault
-late_fault stamp = option_map (fault_in_call BadStamp) stamp
+abbrev pub late_stamp_fault : Option ℕ → Option Fault
+late_stamp_fault stamp = option_map (fault_in_call BadStamp) stamp
 
 -- The rows of a new machine. A machine that is refused has no warps, so it refuses every call.
 abbrev pub first_warp_rows : Option Fault → List ℕ → List WarpRow
@@ -32,7 +32,8 @@ module _ (k : Kind) where
       let count = length stamps in
       let latest = k.latest book in
       option_or (fault_unless (nat_lt 0 count && nat_le count warp_limit) BadSize count)
-      (option_or (late_fault (first_late stamps)) (fault_unless (latest == 0) BadStamp latest))
+      (option_or (late_stamp_fault (first_late_stamp stamps))
+      (fault_unless (latest == 0) BadStamp latest))
 
   -- A new machine: every warp is idle at its first stamp, and no request waits.
   abbrev pub new_machine : Lines → k.State → List ℕ → Machine k

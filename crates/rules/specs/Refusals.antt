@@ -20,38 +20,38 @@ use Rattle.rules.specs.declared.state.Phase.TheVariants.{Idle, Open, Waiting, Se
 use Rattle.rules.specs.State.{Machine, warp_row_of}
 
 -- What a warp without a transaction may not ask for.
-abbrev pub idle_refuses : Op → Option Refusal
-idle_refuses Begin = None
-idle_refuses (Load line) = Some WarpIdle
-idle_refuses (Store line value) = Some WarpIdle
-idle_refuses Commit = Some WarpIdle
-idle_refuses Drop = Some WarpIdle
-idle_refuses Fetch = Some WarpIdle
+abbrev pub idle_refusal : Op → Option Refusal
+idle_refusal Begin = None
+idle_refusal (Load line) = Some WarpIdle
+idle_refusal (Store line value) = Some WarpIdle
+idle_refusal Commit = Some WarpIdle
+idle_refusal Drop = Some WarpIdle
+idle_refusal Fetch = Some WarpIdle
 
 -- What a warp may not ask for while its transaction can go on.
-abbrev pub open_refuses : Op → Option Refusal
-open_refuses Begin = Some WarpNotIdle
-open_refuses (Load line) = None
-open_refuses (Store line value) = None
-open_refuses Commit = None
-open_refuses Drop = None
-open_refuses Fetch = Some NothingToFetch
+abbrev pub open_refusal : Op → Option Refusal
+open_refusal Begin = Some WarpNotIdle
+open_refusal (Load line) = None
+open_refusal (Store line value) = None
+open_refusal Commit = None
+open_refusal Drop = None
+open_refusal Fetch = Some NothingToFetch
 
 -- What a warp may not ask for until it has fetched the outcome of a load or a store that waited.
-abbrev pub pending_refuses : Op → Option Refusal
-pending_refuses Begin = Some WarpNotIdle
-pending_refuses (Load line) = Some OutcomePending
-pending_refuses (Store line value) = Some OutcomePending
-pending_refuses Commit = Some OutcomePending
-pending_refuses Drop = Some OutcomePending
-pending_refuses Fetch = None
+abbrev pub pending_refusal : Op → Option Refusal
+pending_refusal Begin = Some WarpNotIdle
+pending_refusal (Load line) = Some OutcomePending
+pending_refusal (Store line value) = Some OutcomePending
+pending_refusal Commit = Some OutcomePending
+pending_refusal Drop = Some OutcomePending
+pending_refusal Fetch = None
 
 -- What a warp may not ask for in a phase.
-abbrev pub phase_refuses : Phase → Op → Option Refusal
-phase_refuses Idle op = idle_refuses op
-phase_refuses Open op = open_refuses op
-phase_refuses Waiting op = pending_refuses op
-phase_refuses (Settled outcome) op = pending_refuses op
+abbrev pub phase_refusal : Phase → Op → Option Refusal
+phase_refusal Idle op = idle_refusal op
+phase_refusal Open op = open_refusal op
+phase_refusal Waiting op = pending_refusal op
+phase_refusal (Settled outcome) op = pending_refusal op
 
 -- The fault for a refusal, if there is one: the refusal with the offending number.
 abbrev pub refusal_fault : Option Refusal → ℕ → Option Fault
@@ -84,5 +84,5 @@ module _ {k : Kind} where
   abbrev pub fault_of : Machine k → Call → Option Fault
   fault_of m call =
       option_or (fault_unless (nat_lt call.warp (length m.warp_rows)) NoSuchWarp call.warp)
-      (option_or (refusal_fault (phase_refuses (warp_row_of m call.warp).phase call.op) call.warp)
+      (option_or (refusal_fault (phase_refusal (warp_row_of m call.warp).phase call.op) call.warp)
       (number_fault m call.warp call.op))

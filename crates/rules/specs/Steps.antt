@@ -21,11 +21,11 @@ use Rattle.rules.specs.Logs.{LogEntry}
 use Rattle.rules.specs.declared.verdict.Verdict.{Verdict}
 use Rattle.rules.specs.declared.verdict.Verdict.TheVariants.{OwnLine, Gone as VerdictGone, MustWait}
 use Rattle.rules.specs.declared.verdict.Verdict.TheVariants.{GoOn}
-use Rattle.rules.specs.Access.{line_state, decide, verdict_with_room}
+use Rattle.rules.specs.Access.{line_state, access_verdict, verdict_with_room}
 use Rattle.rules.specs.Queue.{Policy, is_full}
 use Rattle.rules.specs.Refusals.{fault_of}
 use Rattle.rules.specs.Serving.{Served, served_on_free_line, served_on_own_line}
-use Rattle.rules.specs.Ending.{after_end, AfterTries}
+use Rattle.rules.specs.Ending.{after_end, AfterRetries}
 
 -- What a call leaves: the machine, its answer or its refusal, and the requests that it settled, in
 -- order.
@@ -45,7 +45,7 @@ module _ {k : Kind} where
   answered_step m answer = record { machine = m; answer = Ok answer; settled = [] }
 
   -- A call that ends a transaction, so that it may settle requests.
-  abbrev pub ended_step : AfterTries k → Answer → Step k
+  abbrev pub ended_step : AfterRetries k → Answer → Step k
   ended_step after answer =
       record { machine = after.machine; answer = Ok answer; settled = after.settled }
 
@@ -80,8 +80,9 @@ module _ {k : Kind} where
   -- then the room in the queue.
   abbrev pub verdict_at : Policy k → Machine k → ℕ → ℕ → Access → Verdict
   verdict_at policy m w line access =
-      verdict_with_room (is_full policy.line_room policy.queue_room m.queue line) (warp_row_of m w).stamp
-      (decide access (line_state k m.book line) (time_of m w))
+      verdict_with_room (is_full policy.line_room policy.queue_room m.queue line)
+      (warp_row_of m w).stamp
+      (access_verdict access (line_state k m.book line) (time_of m w))
 
   -- A load or a store.
   abbrev pub access_step : Policy k → Machine k → ℕ → ℕ → Access → Step k

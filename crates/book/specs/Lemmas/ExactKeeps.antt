@@ -47,11 +47,14 @@ module _ (s : Exact) (good : exact.Good s) where
   sound_with_entry line e later up fits =
       record {
         whole = length-set s.entries line e ∙ good.whole;
-        written = λ n. holds_after_set (λ x. x.stamps.write ≤ later) s.entries line n e untouched_entry fits.0
+        written = λ n.
+            holds_after_set (λ x. x.stamps.write ≤ later) s.entries line n e untouched_entry fits.0
             (let h = good.written n in omega arith);
-        read = λ n. holds_after_set (λ x. x.stamps.read.0 ≤ later) s.entries line n e untouched_entry fits.1
+        read = λ n. holds_after_set
+            (λ x. x.stamps.read.0 ≤ later) s.entries line n e untouched_entry fits.1
             (let h = good.read n in omega arith);
-        stamped = λ n. holds_after_set (λ x. 0 < entry_stores x → 0 < x.stamps.write) s.entries line n e untouched_entry fits.2
+        stamped = λ n. holds_after_set (λ x. 0 < entry_stores x
+            → 0 < x.stamps.write) s.entries line n e untouched_entry fits.2
             (good.stamped n);
       }
 
@@ -62,24 +65,29 @@ module _ (s : Exact) (good : exact.Good s) where
     pub entry_at-with_entry : entry_at (with_entry s line e stamp) line ≡ e
     entry_at-with_entry = get_or-set_same s.entries line e untouched_entry room
 
-    pub entry_at-with_entry-other : (n : ℕ) → (n ≢ line) → entry_at (with_entry s line e stamp) n ≡ entry_at s n
+    pub entry_at-with_entry-other : (n : ℕ) → (n ≢ line)
+        → entry_at (with_entry s line e stamp) n ≡ entry_at s n
     entry_at-with_entry-other n ne = get_or-set_other s.entries line n e untouched_entry ne
 
     -- If the entry's stamps are no earlier than before, no stamp of the book is.
-    pub stamps_grow_with : NoEarlier (entry_at s line).stamps e.stamps → StampsGrow exact s (with_entry s line e stamp)
+    pub stamps_grow_with : NoEarlier (entry_at s line).stamps e.stamps
+        → StampsGrow exact s (with_entry s line e stamp)
     stamps_grow_with up =
         record {
           stamp_grows = λ n _. (step n).0;
           mark_grows = λ n _. (step n).1;
         }
       where
-        step : (n : ℕ) → NoEarlier (entry_at s n).stamps (entry_at (with_entry s line e stamp) n).stamps
+        step : (n : ℕ)
+            → NoEarlier (entry_at s n).stamps (entry_at (with_entry s line e stamp) n).stamps
         step n =
-            holds_after_set_by_place (λ x. NoEarlier (entry_at s n).stamps x.stamps) s.entries line n e untouched_entry room
+            holds_after_set_by_place (λ x. NoEarlier (entry_at s n).stamps x.stamps) s.entries line
+            n e untouched_entry room
             (λ same. subst (λ k. NoEarlier (entry_at s k).stamps e.stamps) (sym same) up)
             (λ _. no_earlier_than_itself (entry_at s n).stamps)
 
-    pub other_reservations_stay : (n : ℕ) → (n ≢ line) → KeepsReservation exact s (with_entry s line e stamp) n
+    pub other_reservations_stay : (n : ℕ) → (n ≢ line)
+        → KeepsReservation exact s (with_entry s line e stamp) n
     other_reservations_stay n ne =
         record {
           same_stores = ap entry_stores (entry_at-with_entry-other n ne);
@@ -88,7 +96,8 @@ module _ (s : Exact) (good : exact.Good s) where
 
     -- If the entry keeps its stores and owner, no reservation changes.
     pub all_reservations_stay :
-        entry_stores e ≡ entry_stores (entry_at s line) → entry_owner e ≡ entry_owner (entry_at s line)
+        entry_stores e ≡ entry_stores (entry_at s line)
+        → entry_owner e ≡ entry_owner (entry_at s line)
         → (n : ℕ) → KeepsReservation exact s (with_entry s line e stamp) n
     all_reservations_stay counts owners n =
         ⊎_elim
@@ -122,7 +131,8 @@ module _ (s : Exact) (good : exact.Good s) where
           ),
           record {
             grows = stamps_grow_with line lt e t.0 up;
-            reaches = subst (λ x. earlier x.stamps.read t ≡ false) (sym (entry_at-with_entry line lt e t.0))
+            reaches = subst (λ x. earlier x.stamps.read t ≡ false)
+                (sym (entry_at-with_entry line lt e t.0))
                 (later_stamps_second old.stamps (read_stamps t)).1;
             stays = λ n _. all_reservations_stay line lt e t.0 refl refl n;
             latest_bound = omega arith;
@@ -131,12 +141,15 @@ module _ (s : Exact) (good : exact.Good s) where
         )
 
     keeps_reserve :
-        (t : Time) → exact.Good (exact.reserve s line t) × Reserves exact s (exact.reserve s line t) line t
+        (t : Time) → exact.Good (exact.reserve s line t)
+        × Reserves exact s (exact.reserve s line t) line t
     unfolding old
     keeps_reserve t =
         let e : Entry = entry_after_reserve old t in
-        let up : NoEarlier old.stamps e.stamps = later_stamps_first old.stamps (write_stamps (t.0 + 1)) in
-        let here : entry_at (exact.reserve s line t) line ≡ e = entry_at-with_entry line lt e (t.0 + 1) in
+        let up : NoEarlier old.stamps e.stamps =
+        later_stamps_first old.stamps (write_stamps (t.0 + 1)) in
+        let here : entry_at (exact.reserve s line t) line ≡ e =
+        entry_at-with_entry line lt e (t.0 + 1) in
         let w = good.written line in
         let r = good.read line in (
           sound_with_entry line e (max s.latest (t.0 + 1)) (omega arith) (
@@ -156,7 +169,8 @@ module _ (s : Exact) (good : exact.Good s) where
         )
 
     keeps_add :
-        0 < entry_stores (entry_at s line) → exact.Good (exact.add s line) × Adds exact s (exact.add s line) line
+        0 < entry_stores (entry_at s line)
+        → exact.Good (exact.add s line) × Adds exact s (exact.add s line) line
     unfolding old
     keeps_add held =
         let e : Entry = entry_after_add old in
@@ -171,7 +185,8 @@ module _ (s : Exact) (good : exact.Good s) where
           ),
           record {
             grows = stamps_grow_with line lt e 0 (no_earlier_than_itself old.stamps);
-            one_more = ap entry_stores here ∙ hold_stores-hold_of (unwrap_or (entry_owner old) 0) (entry_stores old + 1);
+            one_more = ap entry_stores here ∙ hold_stores-hold_of (unwrap_or (entry_owner old) 0)
+                (entry_stores old + 1);
             same_owner = ap entry_owner here ∙ entry_owner-after_add old held;
             stays = λ n _ ne. other_reservations_stay line lt e 0 n ne;
             latest_bound = omega arith;
@@ -197,8 +212,10 @@ module _ (s : Exact) (good : exact.Good s) where
         )
 
 -- The line of a granted call is below the limit.
-pub line_in_range : (line : ℕ) (rest : Bool) → (nat_lt line line_limit && rest) ≡ true → line < line_limit
-line_in_range line rest can = ltb-true line line_limit (and_parts (nat_lt line line_limit) rest can).0
+pub line_in_range : (line : ℕ) (rest : Bool) → (nat_lt line line_limit && rest) ≡ true
+    → line < line_limit
+line_in_range line rest can =
+    ltb-true line line_limit (and_parts (nat_lt line line_limit) rest can).0
 
 pub exact_keeps : Keeps exact
 exact_keeps =
@@ -207,10 +224,12 @@ exact_keeps =
       within_slots = λ s good. counted_most (is_reserved exact s) line_limit;
       tells = exact_lines_are_sound;
       notes = λ s good line t can. keeps_note s good line (line_in_range line _ can) t;
-      reserves = λ s good line t can. keeps_reserve s good line (line_in_range line _ (and_parts _ _ can).0) t;
+      reserves = λ s good line t can. keeps_reserve s good line
+          (line_in_range line _ (and_parts _ _ can).0) t;
       adds = λ s good line can.
           keeps_add s good line (line_in_range line _ can)
-          (positive_unless_zero (entry_stores (entry_at s line)) (and_parts _ _ (and_parts _ _ can).1).0);
+          (positive_unless_zero (entry_stores (entry_at s line))
+          (and_parts _ _ (and_parts _ _ can).1).0);
       releases = λ s good line can. keeps_release s good line (ltb-true line line_limit can);
     }
 

@@ -13,7 +13,8 @@ NoEarlier a b = (a.write ≤ b.write) × (earlier b.read a.read ≡ false)
 pub not_earlier_than_itself : (a : Time) → earlier a a ≡ false
 not_earlier_than_itself a = grind (arith, nat_tests)
 
-pub not_earlier_chain : (a b c : Time) → earlier b a ≡ false → earlier c b ≡ false → earlier c a ≡ false
+pub not_earlier_chain : (a b c : Time) → earlier b a ≡ false → earlier c b ≡ false
+    → earlier c a ≡ false
 not_earlier_chain a b c p q = grind (arith, nat_tests)
 
 pub later_of_first : (a b : Time) → earlier (later_of a b) a ≡ false
@@ -25,7 +26,8 @@ later_of_second a b = grind (arith, nat_tests)
 pub later_of_bound : (a b : Time) (m : ℕ) → a.0 ≤ m → b.0 ≤ m → (later_of a b).0 ≤ m
 later_of_bound a b m p q = grind (arith, nat_tests)
 
-pub earlier_of_reaches : (a b c : Time) → earlier a c ≡ false → earlier b c ≡ false → earlier (earlier_of a b) c ≡ false
+pub earlier_of_reaches : (a b c : Time) → earlier a c ≡ false → earlier b c ≡ false
+    → earlier (earlier_of a b) c ≡ false
 earlier_of_reaches a b c p q = grind (arith, nat_tests)
 
 pub earlier_of_first : (a b : Time) → earlier a (earlier_of a b) ≡ false
@@ -35,9 +37,11 @@ pub earlier_of_second : (a b : Time) → earlier b (earlier_of a b) ≡ false
 earlier_of_second a b = grind (arith, nat_tests)
 
 earlier_of_grows :
-    (a b c d : Time) → earlier c a ≡ false → earlier d b ≡ false → earlier (earlier_of c d) (earlier_of a b) ≡ false
+    (a b c d : Time) → earlier c a ≡ false → earlier d b ≡ false
+    → earlier (earlier_of c d) (earlier_of a b) ≡ false
 earlier_of_grows a b c d p q =
-    earlier_of_reaches c d (earlier_of a b) (not_earlier_chain (earlier_of a b) a c (earlier_of_first a b) p)
+    earlier_of_reaches c d (earlier_of a b)
+    (not_earlier_chain (earlier_of a b) a c (earlier_of_first a b) p)
     (not_earlier_chain (earlier_of a b) b d (earlier_of_second a b) q)
 
 pub earlier_of_bound : (a b : Time) (m : ℕ) → a.0 ≤ m → (earlier_of a b).0 ≤ m
@@ -59,10 +63,12 @@ later_stamps_first a b = (omega arith, later_of_first a.read b.read)
 pub later_stamps_second : (a b : Stamps) → NoEarlier b (later_stamps a b)
 later_stamps_second a b = (omega arith, later_of_second a.read b.read)
 
-pub earlier_stamps_reach : (s a b : Stamps) → NoEarlier s a → NoEarlier s b → NoEarlier s (earlier_stamps a b)
+pub earlier_stamps_reach : (s a b : Stamps) → NoEarlier s a → NoEarlier s b
+    → NoEarlier s (earlier_stamps a b)
 earlier_stamps_reach s a b p q = (omega arith, earlier_of_reaches a.read b.read s.read p.1 q.1)
 
-pub earlier_stamps_grow : (a b c d : Stamps) → NoEarlier a c → NoEarlier b d → NoEarlier (earlier_stamps a b) (earlier_stamps c d)
+pub earlier_stamps_grow : (a b c d : Stamps) → NoEarlier a c → NoEarlier b d
+    → NoEarlier (earlier_stamps a b) (earlier_stamps c d)
 earlier_stamps_grow a b c d p q =
     (omega arith, earlier_of_grows a.read b.read c.read d.read p.1 q.1)
 
@@ -71,5 +77,6 @@ earlier_stamps_grow a b c d p q =
 pub not_earlier_than_zero : (a : Time) → earlier a (0, 0) ≡ false
 not_earlier_than_zero a = grind (arith, nat_tests)
 
-pub later_of_least : (a b c : Time) → earlier c a ≡ false → earlier c b ≡ false → earlier c (later_of a b) ≡ false
+pub later_of_least : (a b c : Time) → earlier c a ≡ false → earlier c b ≡ false
+    → earlier c (later_of a b) ≡ false
 later_of_least a b c p q = grind (arith, nat_tests)

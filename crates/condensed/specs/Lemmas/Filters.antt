@@ -49,7 +49,8 @@ module _ (f : List (List Stamps)) (ways : FourWays f) (way i : ℕ) (lt : way < 
       record {
         four = length-set f way raised_way ∙ ways.four;
         each = λ other inside.
-            holds_after_set (λ xs. length xs ≡ 64) f way other raised_way [] (length-set (way_at f way) i _ ∙ ways.each way lt)
+            holds_after_set (λ xs. length xs ≡ 64) f way other raised_way []
+            (length-set (way_at f way) i _ ∙ ways.each way lt)
             (ways.each other inside);
       }
 
@@ -60,7 +61,8 @@ module _ (f : List (List Stamps)) (ways : FourWays f) (way i : ℕ) (lt : way < 
       subst (λ xs. NoEarlier s (slice_index_or xs i no_stamps))
       (sym (get_or-set_same f way raised_way [] (omega arith)))
       (subst (NoEarlier s)
-      (sym (get_or-set_same (way_at f way) i (later_stamps (stamps_at f way i) s) no_stamps (omega arith)))
+      (sym (get_or-set_same (way_at f way) i (later_stamps (stamps_at f way i) s) no_stamps
+      (omega arith)))
       (later_stamps_second (stamps_at f way i) s))
 
 module _ (f : List (List Stamps)) (four : List ℕ) (s : Stamps) where
@@ -77,43 +79,51 @@ module _ (f : List (List Stamps)) (four : List ℕ) (s : Stamps) where
   unfolding filter_raised_to
   raised_ways ways =
       at_ways three
-      (at_ways two (at_ways one (at_ways f ways 0 _ (omega arith) s) 1 _ (omega arith) s) 2 _ (omega arith) s)
+      (at_ways two (at_ways one (at_ways f ways 0 _ (omega arith) s) 1 _ (omega arith) s) 2 _
+      (omega arith) s)
       3 _ (omega arith) s
 
   from_one : Grown one (filter_raised_to f four s)
   unfolding filter_raised_to
   from_one =
       grown_chain one two (filter_raised_to f four s) (at_grows one 1 _ s)
-      (grown_chain two three (filter_raised_to f four s) (at_grows two 2 _ s) (at_grows three 3 _ s))
+      (grown_chain two three (filter_raised_to f four s) (at_grows two 2 _ s)
+      (at_grows three 3 _ s))
 
   from_two : Grown two (filter_raised_to f four s)
   unfolding filter_raised_to
-  from_two = grown_chain two three (filter_raised_to f four s) (at_grows two 2 _ s) (at_grows three 3 _ s)
+  from_two = grown_chain two three (filter_raised_to f four s) (at_grows two 2 _ s)
+      (at_grows three 3 _ s)
 
   from_three : Grown three (filter_raised_to f four s)
   unfolding filter_raised_to
   from_three = at_grows three 3 _ s
 
   pub raised_grows : Grown f (filter_raised_to f four s)
-  raised_grows = grown_chain f one (filter_raised_to f four s) (at_grows f 0 (slice_index four 0) s) from_one
+  raised_grows =
+      grown_chain f one (filter_raised_to f four s) (at_grows f 0 (slice_index four 0) s) from_one
 
   -- What holds of every entry, and of every entry raised to the stamps, holds of every entry after.
   pub raised_each :
-      (P : Stamps → Type 0) → ((x : Stamps) → P x → P (later_stamps x s)) → ((way k : ℕ) → P (stamps_at f way k))
+      (P : Stamps → Type 0) → ((x : Stamps) → P x → P (later_stamps x s))
+      → ((way k : ℕ) → P (stamps_at f way k))
       → (way k : ℕ) → P (stamps_at (filter_raised_to f four s) way k)
   unfolding filter_raised_to
   raised_each P up all = step three 3 _ (step two 2 _ (step one 1 _ (step f 0 _ all)))
     where
       step :
-          (g : List (List Stamps)) (way i : ℕ) → ((other k : ℕ) → P (stamps_at g other k)) → (other k : ℕ)
+          (g : List (List Stamps)) (way i : ℕ) → ((other k : ℕ) → P (stamps_at g other k))
+          → (other k : ℕ)
           → P (stamps_at (raised_at g way i s) other k)
       step g way i h other k =
           holds_after_set (λ xs. P (slice_index_or xs k no_stamps)) g way other _ []
-          (holds_after_set P (way_at g way) i k (later_stamps (stamps_at g way i) s) no_stamps (up (stamps_at g way i) (h way i))
+          (holds_after_set P (way_at g way) i k (later_stamps (stamps_at g way i) s) no_stamps
+          (up (stamps_at g way i) (h way i))
           (h way k))
           (h other k)
 
-  pub raised_reaches : FourWays f → AreInside four → NoEarlier s (filter_stamps (filter_raised_to f four s) four)
+  pub raised_reaches : FourWays f → AreInside four
+      → NoEarlier s (filter_stamps (filter_raised_to f four s) four)
   unfolding filter_stamps filter_raised_to
   raised_reaches ways inside =
       let w1 : FourWays one = at_ways f ways 0 _ (omega arith) s in
@@ -122,34 +132,47 @@ module _ (f : List (List Stamps)) (four : List ℕ) (s : Stamps) where
       let end : List (List Stamps) = filter_raised_to f four s in
       earlier_stamps_reach s _ _
       (earlier_stamps_reach s _ _
-      (no_earlier_chain s (stamps_at one 0 (slice_index four 0)) (stamps_at end 0 (slice_index four 0))
+      (no_earlier_chain s (stamps_at one 0 (slice_index four 0))
+      (stamps_at end 0 (slice_index four 0))
       (at_reaches f ways 0 (slice_index four 0) (omega arith) s inside.in_0)
       (from_one 0 (slice_index four 0)))
-      (no_earlier_chain s (stamps_at two 1 (slice_index four 1)) (stamps_at end 1 (slice_index four 1))
-      (at_reaches one w1 1 (slice_index four 1) (omega arith) s inside.in_1) (from_two 1 (slice_index four 1))))
+      (no_earlier_chain s (stamps_at two 1 (slice_index four 1))
+      (stamps_at end 1 (slice_index four 1))
+      (at_reaches one w1 1 (slice_index four 1) (omega arith) s inside.in_1)
+      (from_two 1 (slice_index four 1))))
       (earlier_stamps_reach s _ _
-      (no_earlier_chain s (stamps_at three 2 (slice_index four 2)) (stamps_at end 2 (slice_index four 2))
-      (at_reaches two w2 2 (slice_index four 2) (omega arith) s inside.in_2) (from_three 2 (slice_index four 2)))
+      (no_earlier_chain s (stamps_at three 2 (slice_index four 2))
+      (stamps_at end 2 (slice_index four 2))
+      (at_reaches two w2 2 (slice_index four 2) (omega arith) s inside.in_2)
+      (from_three 2 (slice_index four 2)))
       (at_reaches three w3 3 (slice_index four 3) (omega arith) s inside.in_3))
 
 pub filter_stamps_grow :
-    (f g : List (List Stamps)) (four : List ℕ) → Grown f g → NoEarlier (filter_stamps f four) (filter_stamps g four)
+    (f g : List (List Stamps)) (four : List ℕ) → Grown f g
+    → NoEarlier (filter_stamps f four) (filter_stamps g four)
 unfolding filter_stamps
 filter_stamps_grow f g four up =
     let a : ℕ = slice_index four 0 in
     let b : ℕ = slice_index four 1 in
     let c : ℕ = slice_index four 2 in
     let d : ℕ = slice_index four 3 in
-    earlier_stamps_grow (earlier_stamps (stamps_at f 0 a) (stamps_at f 1 b)) (earlier_stamps (stamps_at f 2 c) (stamps_at f 3 d))
-    (earlier_stamps (stamps_at g 0 a) (stamps_at g 1 b)) (earlier_stamps (stamps_at g 2 c) (stamps_at g 3 d))
-    (earlier_stamps_grow (stamps_at f 0 a) (stamps_at f 1 b) (stamps_at g 0 a) (stamps_at g 1 b) (up 0 a) (up 1 b))
-    (earlier_stamps_grow (stamps_at f 2 c) (stamps_at f 3 d) (stamps_at g 2 c) (stamps_at g 3 d) (up 2 c) (up 3 d))
+    earlier_stamps_grow (earlier_stamps (stamps_at f 0 a) (stamps_at f 1 b))
+    (earlier_stamps (stamps_at f 2 c) (stamps_at f 3 d))
+    (earlier_stamps (stamps_at g 0 a) (stamps_at g 1 b))
+    (earlier_stamps (stamps_at g 2 c) (stamps_at g 3 d))
+    (earlier_stamps_grow (stamps_at f 0 a) (stamps_at f 1 b) (stamps_at g 0 a) (stamps_at g 1 b)
+    (up 0 a) (up 1 b))
+    (earlier_stamps_grow (stamps_at f 2 c) (stamps_at f 3 d) (stamps_at g 2 c) (stamps_at g 3 d)
+    (up 2 c) (up 3 d))
 
 module _ (f : List (List Stamps)) (four : List ℕ) (m : ℕ) where
-  pub filter_stamps_write_bound : ((way k : ℕ) → (stamps_at f way k).write ≤ m) → (filter_stamps f four).write ≤ m
+  pub filter_stamps_write_bound : ((way k : ℕ) → (stamps_at f way k).write ≤ m)
+      → (filter_stamps f four).write ≤ m
   unfolding filter_stamps
   filter_stamps_write_bound all = let h = all 0 (slice_index four 0) in omega arith
 
-  pub filter_stamps_read_bound : ((way k : ℕ) → (stamps_at f way k).read.0 ≤ m) → (filter_stamps f four).read.0 ≤ m
+  pub filter_stamps_read_bound : ((way k : ℕ) → (stamps_at f way k).read.0 ≤ m)
+      → (filter_stamps f four).read.0 ≤ m
   unfolding filter_stamps
-  filter_stamps_read_bound all = earlier_of_bound _ _ m (earlier_of_bound _ _ m (all 0 (slice_index four 0)))
+  filter_stamps_read_bound all =
+      earlier_of_bound _ _ m (earlier_of_bound _ _ m (all 0 (slice_index four 0)))

@@ -11,9 +11,11 @@ use Rattle.condensed.specs.Filter.{way_2, way_3}
 
 -- One bit further: its number counts if the bit is set.
 pub index_more :
-    (numbers : List ℕ) (i number index bits next : ℕ) → i < length numbers → number ≡ slice_index numbers i
+    (numbers : List ℕ) (i number index bits next : ℕ) → i < length numbers
+    → number ≡ slice_index numbers i
     → next ≡ cond (bits % 2 == 1) (bit_xor index number) index
-    → bit_xor next (index_by (drop (i + 1) numbers) (bits / 2)) ≡ bit_xor index (index_by (drop i numbers) bits)
+    → bit_xor next (index_by (drop (i + 1) numbers) (bits / 2)) ≡ bit_xor index
+    (index_by (drop i numbers) bits)
 unfolding index_by
 index_more numbers i number index bits next lt is step =
     let rest : ℕ = index_by (drop (i + 1) numbers) (bits / 2) in
@@ -30,7 +32,8 @@ index_more numbers i number index bits next lt is step =
 
 -- The same for the rest of the bits of the line's number.
 pub index_next :
-    (numbers : List ℕ) (i number index line next : ℕ) → i < length numbers → number ≡ slice_index numbers i
+    (numbers : List ℕ) (i number index line next : ℕ) → i < length numbers
+    → number ≡ slice_index numbers i
     → next ≡ cond (line / 2 ^ i % 2 == 1) (bit_xor index number) index
     → bit_xor next (index_by (drop (i + 1) numbers) (line / 2 ^ (i + 1)))
     ≡ bit_xor index (index_by (drop i numbers) (line / 2 ^ i))
@@ -41,11 +44,13 @@ index_next numbers i number index line next lt is step =
 pub index_none : (numbers : List ℕ) (i index bits : ℕ) → length numbers ≤ i
     → bit_xor index (index_by (drop i numbers) bits) ≡ index
 unfolding index_by
-index_none numbers i index bits past = ap (λ xs. bit_xor index (index_by xs bits)) (drop_all i numbers past)
+index_none numbers i index bits past =
+    ap (λ xs. bit_xor index (index_by xs bits)) (drop_all i numbers past)
     ∙ xor_zero_r index
 
 -- Numbers within a way leave an index within it.
-pub index_below : (numbers : List ℕ) → all_below_64 numbers ≡ true → (line : ℕ) → index_by numbers line < 64
+pub index_below : (numbers : List ℕ) → all_below_64 numbers ≡ true → (line : ℕ)
+    → index_by numbers line < 64
 unfolding index_by
 index_below [] ok line = omega arith
 index_below (x ∷ xs) ok line =

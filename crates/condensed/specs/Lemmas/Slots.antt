@@ -17,7 +17,8 @@ pub is_line_is_some : (o : Option ℕ) (n : ℕ) → is_line o n ≡ true → o 
 is_line_is_some None n h = absurd (both_ways false refl h)
 is_line_is_some (Some m) n h = ap Some (eqb-true m n h)
 
-pub same_from : (a b : Option ℕ) (n : ℕ) → is_line a n ≡ true → is_line b n ≡ true → same_line a b ≡ true
+pub same_from : (a b : Option ℕ) (n : ℕ) → is_line a n ≡ true → is_line b n ≡ true
+    → same_line a b ≡ true
 same_from None b n h k = absurd (both_ways false refl h)
 same_from (Some m) b n h k = subst (λ x. is_line b x ≡ true) (sym (eqb-true m n h)) k
 
@@ -28,7 +29,8 @@ same_back (Some m) n h = eq-eqb m n (sym (eqb-true n m h))
 -- A line is in a slot that holds it, or no slot holds it.
 abbrev pub IsSlotOf : List Slot → ℕ → Option ℕ → Type 0
 IsSlotOf slots n None = (k : ℕ) → slot_holds (slice_index_or slots k empty_slot) n ≡ false
-IsSlotOf slots n (Some i) = (i < length slots) × (slot_holds (slice_index_or slots i empty_slot) n ≡ true)
+IsSlotOf slots n (Some i) = (i < length slots)
+    × (slot_holds (slice_index_or slots i empty_slot) n ≡ true)
 
 pub slot_of_law : (slots : List Slot) (n : ℕ) → IsSlotOf slots n (slot_of slots n)
 unfolding slot_of
@@ -51,27 +53,33 @@ slot_of_law slots n = by (nat_lt (position_or_len test slots) (length slots)) re
 
 -- A line is in the first of the slots that hold it.
 pub first_found :
-    (slots : List Slot) (n i : ℕ) → i < length slots → slot_holds (slice_index_or slots i empty_slot) n ≡ true
-    → ((k : ℕ) → k < i → slot_holds (slice_index_or slots k empty_slot) n ≡ false) → slot_of slots n ≡ Some i
+    (slots : List Slot) (n i : ℕ) → i < length slots
+    → slot_holds (slice_index_or slots i empty_slot) n ≡ true
+    → ((k : ℕ) → k < i → slot_holds (slice_index_or slots k empty_slot) n ≡ false)
+    → slot_of slots n ≡ Some i
 unfolding slot_of
 first_found slots n i lt h before =
     let test : Slot → Bool = λ slot. slot_holds slot n in
     let is = position_or_len_is test slots i empty_slot (omega arith) before (λ _. h) in
-    cond-true (nat_lt (position_or_len test slots) (length slots)) (Some (position_or_len test slots)) None
+    cond-true (nat_lt (position_or_len test slots) (length slots))
+    (Some (position_or_len test slots)) None
     (lt-ltb (position_or_len test slots) (length slots) (omega arith)) ∙ ap Some is
 
 pub slot_of-none :
-    (slots : List Slot) (n : ℕ) → ((k : ℕ) → k < length slots → slot_holds (slice_index_or slots k empty_slot) n ≡ false)
+    (slots : List Slot) (n : ℕ)
+    → ((k : ℕ) → k < length slots → slot_holds (slice_index_or slots k empty_slot) n ≡ false)
     → slot_of slots n ≡ None
 slot_of-none slots n h = by (slot_of slots n) (slot_of_law slots n)
   where
     by : (o : Option ℕ) → IsSlotOf slots n o → o ≡ None
     by None s = refl
-    by (Some i) s = absurd (both_ways (slot_holds (slice_index_or slots i empty_slot) n) (h i s.0) s.1)
+    by (Some i) s =
+        absurd (both_ways (slot_holds (slice_index_or slots i empty_slot) n) (h i s.0) s.1)
 
 -- If no line is in two slots, a line is in the slot that holds it.
 pub slot_of-held :
-    (slots : List Slot) → HoldDistinctLines slots → (n i : ℕ) → slot_holds (slice_index_or slots i empty_slot) n ≡ true
+    (slots : List Slot) → HoldDistinctLines slots → (n i : ℕ)
+    → slot_holds (slice_index_or slots i empty_slot) n ≡ true
     → slot_of slots n ≡ Some i
 slot_of-held slots apart n i h = by (slot_of slots n) (slot_of_law slots n)
   where
@@ -79,21 +87,25 @@ slot_of-held slots apart n i h = by (slot_of slots n) (slot_of_law slots n)
     by None s = absurd (both_ways (slot_holds (slice_index_or slots i empty_slot) n) (s i) h)
     by (Some j) s =
         ap Some
-        (apart j i (same_from (slot_line (get_or slots j empty_slot)) (slot_line (get_or slots i empty_slot)) n s.1 h))
+        (apart j i (same_from (slot_line (get_or slots j empty_slot))
+        (slot_line (get_or slots i empty_slot)) n s.1 h))
 
 -- A slot that keeps its line leaves every line where it was.
 pub slot_of-same_line :
-    (slots : List Slot) (i : ℕ) (x : Slot) → slot_line x ≡ slot_line (get_or slots i empty_slot) → (n : ℕ)
+    (slots : List Slot) (i : ℕ) (x : Slot) → slot_line x ≡ slot_line (get_or slots i empty_slot)
+    → (n : ℕ)
     → slot_of (slice_set slots i x) n ≡ slot_of slots n
 unfolding slot_of
 slot_of-same_line slots i x e n =
-    let same = position_or_len-set (λ slot. slot_holds slot n) slots i x empty_slot (ap (λ l. is_line l n) e) in
+    let same = position_or_len-set (λ slot. slot_holds slot n) slots i x empty_slot
+    (ap (λ l. is_line l n) e) in
     let long = length-set slots i x in
     simp (same, long)
 
 pub slot_line-set :
     (slots : List Slot) (i : ℕ) (x : Slot) → slot_line x ≡ slot_line (get_or slots i empty_slot)
-    → (k : ℕ) → (slot_line (get_or (slice_set slots i x) k empty_slot)) ≡ (slot_line (get_or slots k empty_slot))
+    → (k : ℕ) → (slot_line (get_or (slice_set slots i x) k empty_slot)) ≡
+    (slot_line (get_or slots k empty_slot))
 slot_line-set [] i x e k = refl
 slot_line-set (y ∷ ys) zero x e zero = e
 slot_line-set (y ∷ ys) zero x e (suc k) = refl

@@ -17,7 +17,8 @@ use Rattle.calls.proofs.header.read_shape.Goals as goal
 named_book :
     (named : Option BookKind) (tried : Result BookKind Refusal) (told : Result BookKind Fault)
     (P : Refusal → Fault → Type 0) (book : BookKind)
-    → tried ≡ ok_or named BadLetter → MatchResult tried (λ b. told ≡ Ok b) (λ why. IsErrAnd told (P why))
+    → tried ≡ ok_or named BadLetter
+    → MatchResult tried (λ b. told ≡ Ok b) (λ why. IsErrAnd told (P why))
     → told ≡ Ok book → named ≡ Some book
 named_book None tried told P book e m is = let n = rw e at m in absurd (rw is at n)
 named_book (Some b) tried told P book e m is = let n = rw e at m in cc
@@ -27,7 +28,8 @@ returns-then-warps-eq0 c =
     let bytes = c.args.bytes.now in
     let rest = c.in_ok-rest.rest.now in
     let h = c.in_ok-rest.ensures in
-    let book = named_book _ _ _ _ _ c.try_from.ensures.answer c.map_err.ensures.cases c.in_ok-book.was in
+    let book = named_book _ _ _ _ _ c.try_from.ensures.answer c.map_err.ensures.cases
+    c.in_ok-book.was in
     let some : is_some (book_named (get_or bytes 5 0)) ≡ true =
     rw (← (h.follows 0), ← c.from-letter.ensures) (ap is_some book) in
     let w = warps_at bytes rest h.follows c.from-warps.result c.from-warps.ensures in

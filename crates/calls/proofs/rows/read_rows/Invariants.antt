@@ -13,6 +13,7 @@ invariant-loop-row l =
       rows : l.rows ≡ whole_rows l.bytes l.start;
       room : length l.rows ≤ vec_capacity l.calls;
       whole :
-          calls_before (vec_items l.calls) (rows_from l.bytes (4096 - l.row-index) (l.start + 8 * l.row-index))
+          calls_before (vec_items l.calls)
+          (rows_from l.bytes (4096 - l.row-index) (l.start + 8 * l.row-index))
           ≡ rows_from l.bytes 4096 l.start;
     }

@@ -19,5 +19,6 @@ returns c =
     ∙ c.loop-bit.invariant in
     record {
       value = value;
-      inside = λ within. subst (λ n. n < 64) (sym value) (index_below c.args.numbers.now within c.args.line);
+      inside = λ within. subst (λ n. n < 64) (sym value)
+          (index_below c.args.numbers.now within c.args.line);
     }

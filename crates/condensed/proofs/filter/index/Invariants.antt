@@ -6,4 +6,5 @@ use Rattle.condensed.proofs.filter.index.Given as goal
 
 abbrev pub invariant-loop-bit : goal.invariant-loop-bit
 invariant-loop-bit l =
-    bit_xor l.index (index_by (drop l.bit l.numbers) (l.line / 2 ^ l.bit)) ≡ index_by l.numbers l.line
+    bit_xor l.index (index_by (drop l.bit l.numbers) (l.line / 2 ^ l.bit))
+    ≡ index_by l.numbers l.line

@@ -5,7 +5,8 @@ use Rattle.report.proofs.compare.find_difference.Goals as goal
 
 pub loop-our_row-preserved : goal.loop-our_row-preserved
 loop-our_row-preserved c = (
-  one_more _ _ _ _ _ _ c.in-Some.our_row.now c.in-Some-split_row.their_row.now _ c.loop-our_row.invariant.0
+  one_more _ _ _ _ _ _ c.in-Some.our_row.now c.in-Some-split_row.their_row.now _
+      c.loop-our_row.invariant.0
       c.in-Some.ensures.rows c.in-Some-split_row.ensures.rows (search rules),
   omega (arith, c.in-Some.ensures.shorter),
 )
@@ -15,7 +16,8 @@ returns-in_default-split_row-clause-exact c = match_exact
 
 pub returns-in-None-clause-rows : goal.returns-in-None-clause-rows
 returns-in-None-clause-rows c =
-    all_same c.args.ours.now c.args.theirs.now c.loop-our_row.our_rest.now c.loop-our_row.their_rest.now
+    all_same c.args.ours.now c.args.theirs.now c.loop-our_row.our_rest.now
+    c.loop-our_row.their_rest.now
     c.loop-our_row.row c.loop-our_row.invariant.0 (search rules) c.in-None.ensures.rows
 
 pub returns-in-None-clause-exact : goal.returns-in-None-clause-exact

@@ -10,6 +10,9 @@ invariant_of-self c =
     let b = c.args.self.now in
     let later = c.max-self.result in
     let up : b.latest ≤ later = omega arith in
-    let fits : FitsWithin later c.args.entry = subst (λ m. FitsWithin m c.args.entry) (sym c.max-self.ensures)
+    let fits : FitsWithin later c.args.entry =
+    subst (λ m. FitsWithin m c.args.entry) (sym c.max-self.ensures)
     c.requires.fits in
-    record { sound = sound_with_entry (exact_state b) b.sound c.args.line c.args.entry later up fits }
+    record {
+      sound = sound_with_entry (exact_state b) b.sound c.args.line c.args.entry later up fits;
+    }

@@ -13,6 +13,7 @@ invariant_of-self c =
     let is = ap (λ latest. condensed_of written b.filter latest) c.max-self.ensures in
     record {
       sound = subst IsSound (sym is)
-          (sound_with_slot s b.sound c.args.line c.requires.in_range c.args.entry c.args.slot.index _
+          (sound_with_slot s b.sound c.args.line c.requires.in_range c.args.entry c.args.slot.index
+          _
           c.requires.its_slot (omega arith) c.requires.fits);
     }

@@ -7,4 +7,5 @@ use Rattle.condensed.proofs.condensed_book.CondensedBook.finds_slot.Goals as goa
 pub returns-else-is_some : goal.returns-else-is_some
 returns-else-is_some c =
     c.any_free.ensures
-    ∙ free_slot_is_chosen_outside slot_index c.args.inside c.args.self.now.slots (sym c.is_some.ensures ∙ c.if-is_some.false)
+    ∙ free_slot_is_chosen_outside slot_index c.args.inside c.args.self.now.slots
+    (sym c.is_some.ensures ∙ c.if-is_some.false)

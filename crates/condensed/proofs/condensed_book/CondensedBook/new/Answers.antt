@@ -11,7 +11,10 @@ use Rattle.condensed.proofs.condensed_book.CondensedBook.new.Goals as goal
 
 pub invariant_of-result : goal.invariant_of-result
 invariant_of-result c =
-    record { sound = subst IsSound (sym (ap (λ f. condensed_of (replicate 16 empty_slot) f 0) c.new.ensures)) sound_new }
+    record {
+      sound = subst IsSound
+          (sym (ap (λ f. condensed_of (replicate 16 empty_slot) f 0) c.new.ensures)) sound_new;
+    }
 
 pub returns : goal.returns
 returns c =

@@ -9,6 +9,7 @@ pub invariant_of-self : goal.invariant_of-self
 invariant_of-self c =
     let b = c.args.self.now in
     let s : Condensed = condensed_state b in
-    let is : condensed_of b.slots c.raise.new.self c.max-self.result ≡ after_note s c.args.line c.args.time None =
+    let is : condensed_of b.slots c.raise.new.self c.max-self.result ≡ after_note s c.args.line
+    c.args.time None =
     cc in
     record { sound = subst IsSound (sym is) (sound_after_note s b.sound c.args.line c.args.time) }

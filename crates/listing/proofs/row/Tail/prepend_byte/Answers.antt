@@ -10,5 +10,6 @@ invariant_of-self c =
       size = grind (arith, common_steps);
       within = omega arith;
       utf8 =
-          text_before _ _ _ (ascii_byte c.args.byte c.requires.ascii) (grind (arith, common_steps)) c.args.self.now.utf8;
+          text_before _ _ _ (ascii_byte c.args.byte c.requires.ascii)
+          (grind (arith, common_steps)) c.args.self.now.utf8;
     }

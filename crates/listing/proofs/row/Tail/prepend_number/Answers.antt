@@ -15,7 +15,8 @@ invariant_of-self c =
       size = grind (arith, common_steps);
       within = omega arith;
       utf8 =
-          text_before _ _ _ (IsUtf8-from_ascii _ (IsAscii-decimal _ c.ranges.number.fits)) c.write_digits-self.ensures.written
+          text_before _ _ _ (IsUtf8-from_ascii _ (IsAscii-decimal _ c.ranges.number.fits))
+          c.write_digits-self.ensures.written
           c.args.self.now.utf8;
     }
 

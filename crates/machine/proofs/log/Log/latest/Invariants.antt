@@ -5,4 +5,5 @@ use Rattle.machine.specs.Logs.{store_entry}
 use Rattle.machine.proofs.log.Log.latest.Given as goal
 
 abbrev pub invariant-loop-store : goal.invariant-loop-store
-invariant-loop-store l = l.found ≡ last_stored (map store_entry (take l.store-index l.store-items)) l.line
+invariant-loop-store l =
+    l.found ≡ last_stored (map store_entry (take l.store-index l.store-items)) l.line

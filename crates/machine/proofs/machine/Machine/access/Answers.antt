@@ -10,7 +10,8 @@ returns-in-OwnLine g c =
     let w = c.args.request.warp in
     let line = c.args.request.line in
     let access = c.args.request.access in
-    let done = access_by_verdict policy m w line access _ _ _ _ _ _ c.encounter.ensures.access c.encounter.ensures.line
+    let done = access_by_verdict policy m w line access _ _ _ _ _ _ c.encounter.ensures.access
+    c.encounter.ensures.line
     c.encounter.ensures.time c.in-OwnLine.ensures.value
     (on_own_line policy m w line access _ c.serve_own.result _ c.serve_own.ensures.after
     c.serve_own.ensures.answer c.into.ensures) in
@@ -23,7 +24,8 @@ returns-in-Gone g c =
     let w = c.args.request.warp in
     let line = c.args.request.line in
     let access = c.args.request.access in
-    let done = access_by_verdict policy m w line access _ _ _ _ _ _ c.encounter.ensures.access c.encounter.ensures.line
+    let done = access_by_verdict policy m w line access _ _ _ _ _ _ c.encounter.ensures.access
+    c.encounter.ensures.line
     c.encounter.ensures.time c.in-Gone.ensures.value
     (gone policy m w line access _ _ c.in-Gone.cause c.in-Gone.next c.end_as_gone.ensures.after
     c.end_as_gone.ensures.answer) in
@@ -36,9 +38,11 @@ returns-in-MustWait g c =
     let w = c.args.request.warp in
     let line = c.args.request.line in
     let access = c.args.request.access in
-    let done = access_by_verdict policy m w line access _ _ _ _ _ _ c.encounter.ensures.access c.encounter.ensures.line
+    let done = access_by_verdict policy m w line access _ _ _ _ _ _ c.encounter.ensures.access
+    c.encounter.ensures.line
     c.encounter.ensures.time c.in-MustWait.ensures.value
-    (must_wait policy m w line access _ _ c.wait_or_end.ensures.after c.wait_or_end.ensures.answer) in
+    (must_wait policy m w line access _ _ c.wait_or_end.ensures.after c.wait_or_end.ensures.answer)
+    in
     record { after = done.machine; answer = done.says; memory = c.wait_or_end.ensures.memory }
 
 pub returns-in-GoOn : goal.returns-in-GoOn
@@ -48,7 +52,8 @@ returns-in-GoOn g c =
     let w = c.args.request.warp in
     let line = c.args.request.line in
     let access = c.args.request.access in
-    let done = access_by_verdict policy m w line access _ _ _ _ _ _ c.encounter.ensures.access c.encounter.ensures.line
+    let done = access_by_verdict policy m w line access _ _ _ _ _ _ c.encounter.ensures.access
+    c.encounter.ensures.line
     c.encounter.ensures.time c.in-GoOn.ensures.value
     (going_on policy m w line access _ c.serve.result _ c.serve.ensures.after c.serve.ensures.answer
     c.into-in-GoOn.ensures) in

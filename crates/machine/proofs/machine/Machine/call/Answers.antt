@@ -5,7 +5,8 @@ use Rattle.rules.specs.Steps.{Step}
 use Rattle.rules.specs.Refusals.{fault_of}
 use Rattle.machine.specs.Meaning.{state, policy_of}
 use Rattle.machine.specs.CallParts.{as_result}
-use Rattle.machine.proofs.CheckedCalls.{accepted_step_is, refused_machine, refused_answer, refused_at}
+use Rattle.machine.proofs.CheckedCalls.{accepted_step_is, refused_machine, refused_answer}
+use Rattle.machine.proofs.CheckedCalls.{refused_at}
 use Rattle.machine.proofs.machine.Machine.call.Goals as goal
 
 pub returns-in_err-check : goal.returns-in_err-check
@@ -24,7 +25,8 @@ returns-in_err-check g c =
 pub returns : goal.returns
 returns g c =
     let m = state g.M.Memory.at g.B.Book.kind g.B.Book.model c.args.self.now in
-    let is = accepted_step_is (policy_of g.B.Book.kind c.args.self.now) m c.args.call c.in_ok-check.ensures in
+    let is = accepted_step_is (policy_of g.B.Book.kind c.args.self.now) m c.args.call
+    c.in_ok-check.ensures in
     record {
       after = c.accept.ensures.after ∙ ap (λ (s : Step _). s.machine) is;
       answer = c.accept.ensures.answer ∙ ap (λ (s : Step _). s.answer) is;

@@ -21,6 +21,7 @@ pub returns-in-Value : goal.returns-in-Value
 returns-in-Value g c =
     let m = state g.M.Memory.at g.B.Book.kind g.B.Book.model c.args.self.now in
     let policy = policy_of g.B.Book.kind c.args.self.now in
-    let done = fetch_going_on policy m c.args.warp (warp_rows c.resume.new.self) (queue_of c.resume.new.self) c.into.result
+    let done = fetch_going_on policy m c.args.warp (warp_rows c.resume.new.self)
+    (queue_of c.resume.new.self) c.into.result
     c.args.outcome c.in-Value.is c.resume.ensures.warp_rows c.resume.ensures.queue c.into.ensures in
     record { after = done.machine; answer = done.says; memory = refl }

@@ -9,11 +9,13 @@ pub returns-then-stored-eq0-clause-after : goal.returns-then-stored-eq0-clause-a
 returns-then-stored-eq0-clause-after g c =
     let m = state g.M.Memory.at g.B.Book.kind g.B.Book.model c.args.self.now in
     after_end_without_stores (policy_of g.B.Book.kind c.args.self.now) m c.args.warp c.args.stamp
-    (warp_rows c.make_idle.new.self) (queue_of c.make_idle.new.self) (sym c.stored.ensures ∙ c.if-stored-eq0.true)
+    (warp_rows c.make_idle.new.self) (queue_of c.make_idle.new.self)
+    (sym c.stored.ensures ∙ c.if-stored-eq0.true)
     c.make_idle.ensures.warp_rows c.make_idle.ensures.queue
 
 pub returns-clause-after : goal.returns-clause-after
 returns-clause-after g c =
-    after_end_is (policy_of g.B.Book.kind c.args.self.now) (state g.M.Memory.at g.B.Book.kind g.B.Book.model c.args.self.now)
+    after_end_is (policy_of g.B.Book.kind c.args.self.now)
+    (state g.M.Memory.at g.B.Book.kind g.B.Book.model c.args.self.now)
     c.args.warp c.args.stamp _ _ c.as_slice.result.now c.log.ensures
     (c.as_slice.ensures.value ∙ c.lines-lines.ensures.value) c.give_up.ensures.after

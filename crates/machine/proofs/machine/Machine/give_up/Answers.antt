@@ -15,6 +15,8 @@ pub returns-clause-after : goal.returns-clause-after
 returns-clause-after g c =
     let m = state g.M.Memory.at g.B.Book.kind g.B.Book.model c.args.self.now in
     let mid = state g.M.Memory.at g.B.Book.kind g.B.Book.model c.release_all.new.self in
-    after_giving_up_is (policy_of g.B.Book.kind c.args.self.now) m c.args.warp (idle_row c.args.stamp) mid _
-    (warp_rows c.make_idle.new.self) (queue_of c.make_idle.new.self) c.args.lines.now c.release_all.ensures.after
+    after_giving_up_is (policy_of g.B.Book.kind c.args.self.now) m c.args.warp
+    (idle_row c.args.stamp) mid _
+    (warp_rows c.make_idle.new.self)
+    (queue_of c.make_idle.new.self) c.args.lines.now c.release_all.ensures.after
     c.make_idle.ensures.warp_rows c.make_idle.ensures.queue c.retry_lines.ensures.after

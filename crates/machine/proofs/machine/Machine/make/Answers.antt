@@ -14,11 +14,14 @@ returns-clause-machine g c =
     let rows : warp_rows c.new.result ≡ first_warp_rows found c.args.stamps.now =
     elim c.if-is_ok.branch [
       | then-is_ok w ↦ c.new.ensures.warp_rows ∙ ap (λ s. map idle_row (take 32 s.now)) w.warps-is
-          ∙ first_rows_of_good_shape c.args.stamps.now _ _ found _ _ refl c.check_shape-shape.ensures c.is_ok.ensures.value w.if-is_ok.true
+          ∙ first_rows_of_good_shape c.args.stamps.now _ _ found _ _ refl
+          c.check_shape-shape.ensures c.is_ok.ensures.value w.if-is_ok.true
       | else-is_ok w ↦ c.new.ensures.warp_rows ∙ ap (λ s. map idle_row (take 32 s.now)) w.warps-is
-          ∙ no_rows_of_refused_shape c.args.stamps.now found _ _ c.check_shape-shape.ensures c.is_ok.ensures.value w.if-is_ok.false
+          ∙ no_rows_of_refused_shape c.args.stamps.now found _ _ c.check_shape-shape.ensures
+          c.is_ok.ensures.value w.if-is_ok.false
     ] in
     let lines = g.M.Memory.at c.args.memory in
     let book = g.B.Book.model c.args.book in
     ap (λ rs. built {k = g.B.Book.kind} lines book rs (queue_of c.new.result)) rows
-    ∙ ap (λ q. built {k = g.B.Book.kind} lines book (first_warp_rows found c.args.stamps.now) q) c.new.ensures.queue
+    ∙ ap (λ q. built {k = g.B.Book.kind} lines book (first_warp_rows found c.args.stamps.now) q)
+    c.new.ensures.queue

@@ -10,5 +10,6 @@ invariant-loop-place g l = record {
       So (policy_of g.B.Book.kind l.initial.self)
       (state g.M.Memory.at g.B.Book.kind g.B.Book.model l.initial.self) l.initial.answers
       (take l.place l.calls) (state g.M.Memory.at g.B.Book.kind g.B.Book.model l.self) l.answers;
-  loan : loan g.M.Memory.lent g.M.Memory.spare l.self ≡ loan g.M.Memory.lent g.M.Memory.spare l.initial.self;
+  loan : loan g.M.Memory.lent g.M.Memory.spare l.self ≡ loan g.M.Memory.lent g.M.Memory.spare
+      l.initial.self;
 }

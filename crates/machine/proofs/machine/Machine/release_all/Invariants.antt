@@ -8,6 +8,7 @@ abbrev pub invariant-loop-line : goal.invariant-loop-line
 invariant-loop-line g l = record {
   after :
       state g.M.Memory.at g.B.Book.kind g.B.Book.model l.self
-      ≡ with_lines_released (state g.M.Memory.at g.B.Book.kind g.B.Book.model l.initial.self) (take l.line-index l.lines);
+      ≡ with_lines_released (state g.M.Memory.at g.B.Book.kind g.B.Book.model l.initial.self)
+      (take l.line-index l.lines);
   memory : l.self.memory ≡ l.initial.self.memory;
 }

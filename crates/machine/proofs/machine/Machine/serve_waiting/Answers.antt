@@ -1,11 +1,13 @@
--- Withdrawn, its warp is open and keeps its room; served, it is still open, and its outcome has no next stamp.
+-- Withdrawn, its warp is open and keeps its room; served, it is still open, and its outcome has no
+-- next stamp.
 use Rattle.std.proofs.Common.{◌≤◌, sym, ap, ◌∙◌, subst}
 use Rattle.rules.specs.State.{Machine, warp_row_of}
 use Rattle.rules.specs.Serving.{served_on_free_line}
 use Rattle.machine.specs.Phases.{highest_stamp, next_stamp, is_open}
 use Rattle.machine.specs.Warps.{has_room}
 use Rattle.machine.specs.Meaning.{state}
-use Rattle.machine.proofs.Withdrawals.{withdrawn_open, withdrawn_room, served_open, served_on_time, served_after_withdrawal}
+use Rattle.machine.proofs.Withdrawals.{withdrawn_open, withdrawn_room, served_open, served_on_time}
+use Rattle.machine.proofs.Withdrawals.{served_after_withdrawal}
 use Rattle.machine.proofs.machine.Machine.serve_waiting.Goals as goal
 
 pub serve-outcome-requires-clause-open : goal.serve-outcome-requires-clause-open
@@ -46,6 +48,8 @@ returns-clause-after g c =
     let line = c.args.request.line in
     let access = c.args.request.access in
     served_after_withdrawal m w c.requires.waiting line _ _ access _
-    (c.serve-outcome.ensures.after ∙ ap (λ x. (served_on_free_line x w line access).machine) c.withdraw.ensures.after)
-    (c.serve-outcome.ensures.answer ∙ ap (λ x. (served_on_free_line x w line access).outcome) c.withdraw.ensures.after)
+    (c.serve-outcome.ensures.after
+    ∙ ap (λ x. (served_on_free_line x w line access).machine) c.withdraw.ensures.after)
+    (c.serve-outcome.ensures.answer
+    ∙ ap (λ x. (served_on_free_line x w line access).outcome) c.withdraw.ensures.after)
     c.settle.ensures.after

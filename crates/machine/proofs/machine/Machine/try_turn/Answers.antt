@@ -1,7 +1,8 @@
 -- By what is pending, and by the verdict.
 use Rattle.std.proofs.Common.{sym, ◌∙◌, ⊎_elim}
 use Rattle.machine.specs.Meaning.{state}
-use Rattle.machine.proofs.Retries.{turn_without_request, turn_by_verdict, try_gone, try_going_on, try_on_own_line, try_waiting, retried_here}
+use Rattle.machine.proofs.Retries.{turn_without_request, turn_by_verdict, try_gone, try_going_on}
+use Rattle.machine.proofs.Retries.{try_on_own_line, try_waiting, retried_here}
 use Rattle.machine.proofs.machine.Machine.try_turn.Goals as goal
 
 pub returns-in_default-clause-after : goal.returns-in_default-clause-after

@@ -8,7 +8,8 @@ abbrev pub invariant-loop-warp : goal.invariant-loop-warp
 invariant-loop-warp g l = record {
   after :
       state g.M.Memory.at g.B.Book.kind g.B.Book.model l.self
-      ≡ fold (machine_after_turn l.line) (state g.M.Memory.at g.B.Book.kind g.B.Book.model l.initial.self)
+      ≡ fold (machine_after_turn l.line)
+      (state g.M.Memory.at g.B.Book.kind g.B.Book.model l.initial.self)
       (take l.warp-index l.warp-items);
   memory : l.self.memory ≡ l.initial.self.memory;
 }

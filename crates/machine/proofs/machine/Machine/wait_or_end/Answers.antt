@@ -11,9 +11,11 @@ returns-then-is_full g c =
     let w = c.args.request.warp in
     let line = c.args.request.line in
     let access = c.args.request.access in
-    let done = wait_by_room policy m w line access _ _ _ true _ _ c.queue_limits.ensures.line c.queue_limits.ensures.queue
+    let done = wait_by_room policy m w line access _ _ _ true _ _ c.queue_limits.ensures.line
+    c.queue_limits.ensures.queue
     c.is_full.ensures c.if-is_full.true
-    (gone_for_room policy m w line access _ _ c.stamp-stamp.result c.stamp-stamp.ensures.value c.end_as_gone.ensures.after
+    (gone_for_room policy m w line access _ _ c.stamp-stamp.result c.stamp-stamp.ensures.value
+    c.end_as_gone.ensures.after
     c.end_as_gone.ensures.answer) in
     record { after = done.machine; answer = done.says; memory = c.end_as_gone.ensures.memory }
 
@@ -24,7 +26,8 @@ returns g c =
     let w = c.args.request.warp in
     let line = c.args.request.line in
     let access = c.args.request.access in
-    let done = wait_by_room policy m w line access _ _ _ false _ _ c.queue_limits.ensures.line c.queue_limits.ensures.queue
+    let done = wait_by_room policy m w line access _ _ _ false _ _ c.queue_limits.ensures.line
+    c.queue_limits.ensures.queue
     c.is_full.ensures c.if-is_full.false
     (queued policy m w line access _ c.join_queue.ensures.after) in
     record { after = done.machine; answer = done.says; memory = c.join_queue.ensures.memory }

@@ -15,5 +15,7 @@ settle-requires-clause-open g c =
 
 pub returns-clause-after : goal.returns-clause-after
 returns-clause-after g c =
-    settling_is (state g.M.Memory.at g.B.Book.kind g.B.Book.model c.args.self.now) c.args.warp _ c.args.outcome
-    (c.settle.ensures.after ∙ ap (λ x. with_outcome_set x c.args.warp c.args.outcome) c.withdraw.ensures.after)
+    settling_is (state g.M.Memory.at g.B.Book.kind g.B.Book.model c.args.self.now) c.args.warp _
+    c.args.outcome
+    (c.settle.ensures.after
+    ∙ ap (λ x. with_outcome_set x c.args.warp c.args.outcome) c.withdraw.ensures.after)

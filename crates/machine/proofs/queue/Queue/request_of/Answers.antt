@@ -11,6 +11,7 @@ pub returns : goal.returns
 returns c =
     let requests = c.self.inside.requests.items in
     c.copied.ensures
-    ∙ find_from_yields_List (λ (r : Request). eqb r.warp c.args.warp) _ _ c.find.result c.find.ensures.ran
+    ∙ find_from_yields_List (λ (r : Request). eqb r.warp c.args.warp) _ _ c.find.result
+    c.find.ensures.ran
     (YieldsList-from_slice requests cc) (λ x b q k. search (rules, tests))
     ∙ find-request_of requests c.args.warp ∙ ap (λ q. request_of q c.args.warp) c.self.view_is

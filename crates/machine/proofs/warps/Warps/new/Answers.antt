@@ -8,4 +8,5 @@ use Rattle.machine.proofs.warps.Warps.new.Goals as goal
 pub returns-clause-warp_rows : goal.returns-clause-warp_rows
 returns-clause-warp_rows c =
     c.loop-stamp.invariant.idle
-    ∙ ap (map idle_row) (take-min c.args.stamps.now c.loop-stamp.stamp-index (grind (arith, common_steps)))
+    ∙ ap (map idle_row)
+    (take-min c.args.stamps.now c.loop-stamp.stamp-index (grind (arith, common_steps)))

@@ -6,4 +6,5 @@ pub set_phase-requires-clause-none : goal.set_phase-requires-clause-none
 set_phase-requires-clause-none c = free c.args.self.now c.args.warp (settled_phase _ c.requires).0
 
 pub set_phase-requires-clause-stamp : goal.set_phase-requires-clause-stamp
-set_phase-requires-clause-stamp c = busy_on_time c.args.self.now c.args.warp (settled_phase _ c.requires).1
+set_phase-requires-clause-stamp c =
+    busy_on_time c.args.self.now c.args.warp (settled_phase _ c.requires).1

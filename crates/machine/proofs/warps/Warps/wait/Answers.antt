@@ -5,7 +5,8 @@ use Rattle.rules.specs.State.{idle_row, warp_row_at, row_in_phase}
 use Rattle.rules.specs.declared.state.Phase.TheVariants.{Waiting}
 use Rattle.machine.specs.Warps.{warp_rows, warp_row}
 use Rattle.machine.specs.Soundness.{IsSound}
-use Rattle.machine.proofs.SoundQueue.{has_request, free, room_for, room_in_phase, IsSound-wait, open_row}
+use Rattle.machine.proofs.SoundQueue.{has_request, free, room_for, room_in_phase, IsSound-wait}
+use Rattle.machine.proofs.SoundQueue.{open_row}
 use Rattle.machine.proofs.warps.Warps.wait.Goals as goal
 
 pub set_phase-requires-clause-none : goal.set_phase-requires-clause-none
@@ -14,7 +15,8 @@ set_phase-requires-clause-none c =
     free t c.args.request.warp (open_row t c.args.request.warp c.requires.open).free
 
 pub set_phase-requires-clause-stamp : goal.set_phase-requires-clause-stamp
-set_phase-requires-clause-stamp c = (open_row c.args.self.now c.args.request.warp c.requires.open).on_time
+set_phase-requires-clause-stamp c =
+    (open_row c.args.self.now c.args.request.warp c.requires.open).on_time
 
 pub push-requires : goal.push-requires
 push-requires c =

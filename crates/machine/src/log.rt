@@ -30,7 +30,7 @@ impl Default for Store {
 }
 
 /// The stores of a transaction, in the order made. It is changed by value.
-#[derive(Drop)]
+#[derive(Clone, Drop)]
 pub struct Log {
     pub(crate) len: usize,
     pub(crate) stores: [Store; 32],

@@ -21,7 +21,8 @@ pub same_in_part : (xs : List ℕ) (start m n : ℕ) → n ≤ m
 same_in_part xs start m n h =
     record {
       at = λ k below.
-          simp zero-add (get_or-take m (drop start xs) k 0 (omega arith) ∙ get_or-drop start xs k 0);
+          simp zero-add
+          (get_or-take m (drop start xs) k 0 (omega arith) ∙ get_or-drop start xs k 0);
     }
 
 pub same_in_rest : (xs : List ℕ) (start n : ℕ) → SameBytes (drop start xs) xs 0 start n

@@ -94,6 +94,7 @@ misuse_of NoListing = no_listing
 
 -- The sentence on standard error about a refused command line.
 abbrev pub usage_text : UsageError → List ℕ
-usage_text (UnknownOption word) = codes "there is no option " ++ (word.now ++ codes ", see golden --help")
+usage_text (UnknownOption word) = codes "there is no option "
+    ++ (word.now ++ codes ", see golden --help")
 usage_text (ExtraWord word) = word.now ++ codes " is a word too many, see golden --help"
 usage_text NoListing = codes "--compare needs a listing, see golden --help"

@@ -28,9 +28,11 @@ pub fn call_with_facts<M: Memory, B: Book>(
     call: Call,
 ) -> Result<CallFacts, AllocError>
     ensures after { OnOk result (state M.at B.kind B.model machine.new
-        ≡ (step (policy_of B.kind machine.old) (state M.at B.kind B.model machine.old) call).machine) }
+        ≡ (step (policy_of B.kind machine.old)
+        (state M.at B.kind B.model machine.old) call).machine) }
     ensures facts { IfOk result
-        (λ facts. AreFacts (policy_of B.kind machine.old) (state M.at B.kind B.model machine.old) call facts) }
+        (λ facts. AreFacts (policy_of B.kind machine.old)
+        (state M.at B.kind B.model machine.old) call facts) }
 {
     let before = facts_before(heap, machine, call)?;
     let reply = machine.call(call);

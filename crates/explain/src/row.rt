@@ -24,7 +24,8 @@ pub fn add_row<M: Memory, B: Book>(
     call: Call,
 ) -> Result<String, AllocError>
     ensures after { OnOk result (state M.at B.kind B.model machine.new
-        ≡ (step (policy_of B.kind machine.old) (state M.at B.kind B.model machine.old) call).machine) }
+        ≡ (step (policy_of B.kind machine.old)
+        (state M.at B.kind B.model machine.old) call).machine) }
     ensures text { IfOk result (λ t. AddsRow
         (call_row place call
         (step (policy_of B.kind machine.old) (state M.at B.kind B.model machine.old) call).answer)

@@ -86,7 +86,7 @@ pub record FetchReturns (before : List Event) (w : ℕ) (answer : Answer) : Type
   pub unchanged :
       (ledger_of before).current w ≡ (ledger_of (earlier ++ settling_event ∷ [])).current w
 
--- So it is with every fetch that is neither refused nor told to wait.
+-- So it is with every fetch that is neither refused nor answered with wait.
 abbrev pub FetchesReturn : List Event → Type 0
 FetchesReturn events =
     (before : List Event) (e : Event) (after : List Event) → events ≡ before ++ e ∷ after

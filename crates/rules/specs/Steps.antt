@@ -102,7 +102,7 @@ module _ {k : Kind} where
       ended_step (after_end policy m w next) (Gone cause next)
 
   -- A fetch, by the phase of its warp. A fetch by an idle or an open warp is refused earlier; here
-  -- it would be told to wait.
+  -- its answer would be wait.
   abbrev pub fetch_step : Policy k → Machine k → ℕ → Phase → Step k
   fetch_step policy m w Idle = answered_step m Wait
   fetch_step policy m w Open = answered_step m Wait

@@ -102,7 +102,7 @@ impl<M: Memory, B: Book> Machine<M, B> {
             (state M.at B.kind B.model self.now) request.warp request.line
             request.access }
     {
-        match self.encounter(request).decide() {
+        match self.encounter(request).access_verdict() {
             Verdict::OwnLine => Verdict::OwnLine,
             Verdict::Gone { cause, next } => Verdict::Gone { cause, next },
             Verdict::MustWait => self.wait_verdict(request),
@@ -138,7 +138,7 @@ impl<M: Memory, B: Book> Machine<M, B> {
             (state M.at B.kind B.model self.old) request.warp request.line request.access).answer }
         ensures memory { self.new.memory ≡ self.old.memory }
     {
-        match self.encounter(request).decide() {
+        match self.encounter(request).access_verdict() {
             Verdict::OwnLine => self.serve_own(request).into(),
             Verdict::Gone { cause, next } => self.end_as_gone(request.warp, cause, next),
             Verdict::MustWait => self.wait_or_end(request),

@@ -134,7 +134,7 @@ impl<M: Memory, B: Book> Machine<M, B> {
             return;
         };
         let request = Request { warp, line, access };
-        match self.encounter(request).retried() {
+        match self.encounter(request).retry_verdict() {
             Verdict::Gone { cause, next } => self.withdraw_and_settle(
                 warp,
                 Outcome::Gone { cause, next },

@@ -22,20 +22,20 @@ pub struct Encounter {
 
 impl Encounter {
     /// All steps, in their order. The first: the line is reserved for the warp itself.
-    pub fn decide(self) -> Verdict
+    pub fn access_verdict(self) -> Verdict
         ensures value { result ≡ access_verdict self.access self.line self.time }
         ensures bound { NextWithin highest_stamp result }
     {
         let (_, warp) = self.time;
         match self.line.owner {
             Some(owner) if owner == warp => Verdict::OwnLine,
-            Some(_) | None => self.retried(),
+            Some(_) | None => self.retry_verdict(),
         }
     }
 
     /// The second step, and the first of a retry: a logically later transaction wrote the line, so
     /// this one is gone.
-    pub fn retried(self) -> Verdict
+    pub fn retry_verdict(self) -> Verdict
         ensures value { result ≡ retry_verdict self.access self.line self.time }
         ensures bound { NextWithin highest_stamp result }
     {
@@ -43,14 +43,14 @@ impl Encounter {
         if stamp < u64::from(self.line.write_stamp) {
             return Verdict::Gone {
                 cause: Cause::WrittenLater,
-                next: self.past(),
+                next: self.stamp_past(),
             };
         }
-        self.by_mark()
+        self.verdict_by_read_mark()
     }
 
     /// A store to a line that a logically later transaction read: its transaction is gone.
-    fn by_mark(self) -> Verdict
+    fn verdict_by_read_mark(self) -> Verdict
         ensures value { result ≡ verdict_by_read_mark self.access self.line self.time }
         ensures bound { NextWithin highest_stamp result }
     {
@@ -58,25 +58,25 @@ impl Encounter {
         match self.access {
             Access::Write { .. } if self.time < (u64::from(read), by) => Verdict::Gone {
                 cause: Cause::ReadLater,
-                next: self.past(),
+                next: self.stamp_past(),
             },
-            Access::Read | Access::Write { .. } => self.by_owner(),
+            Access::Read | Access::Write { .. } => self.verdict_by_owner(),
         }
     }
 
     /// A line that is reserved for another warp: the request must wait.
-    fn by_owner(self) -> Verdict
+    fn verdict_by_owner(self) -> Verdict
         ensures value { result ≡ verdict_by_owner self.line.owner self.access self.line self.time }
         ensures bound { NextWithin highest_stamp result }
     {
         match self.line.owner {
             Some(_) => Verdict::MustWait,
-            None => self.unowned(),
+            None => self.verdict_on_free_line(),
         }
     }
 
     /// A line that is not reserved: a load goes on, and so does a store if the line has a slot.
-    fn unowned(self) -> Verdict
+    fn verdict_on_free_line(self) -> Verdict
         ensures value { result ≡ verdict_on_free_line self.access self.line self.time }
         ensures bound { NextWithin highest_stamp result }
     {
@@ -91,7 +91,7 @@ impl Encounter {
     }
 
     /// The stamp to restart at: past the line's write stamp, and for a store its read mark too.
-    fn past(self) -> u64
+    fn stamp_past(self) -> u64
         ensures value { result ≡ stamp_past self.access self.line }
         ensures bound { result ≤ highest_stamp }
     {

@@ -39,7 +39,7 @@ pub fn order_explains<B: Versions>()
 
 /// The law of fetches: a fetch returns the outcome with which its warp's request was settled, and
 /// the load or store counts in its transaction from then on.
-pub fn fetches_tell<B: Versions>()
+pub fn fetches_return<B: Versions>()
     ensures { LawOfFetches B.kind }
 {}
 
@@ -76,7 +76,7 @@ pub fn worked_runs_stand()
 /// The laws tell a right machine from a wrong one. In each small run timestamp order gives the
 /// run's account and the other order does not. A lost update is explained by no order, and a
 /// machine that takes an aborted transaction's next stamp too early breaks the law of waits.
-pub fn definitions_tell()
+pub fn examples_stand()
     ensures writers { TwoWriters }
     ensures reader { WriterThenReader }
     ensures writer { ReaderThenWriter }

@@ -44,9 +44,9 @@ returns-in-OwnLine-clause-after g c =
     (λ is. try_on_own_line m w line access
     ∙ turn_by_verdict m w line access _ c.in-Some.ensures.value
     (retried_here m w line access _ _ _ _ c.encounter.ensures.access c.encounter.ensures.line
-    c.encounter.ensures.time (sym is ∙ c.retried.ensures.value)))
+    c.encounter.ensures.time (sym is ∙ c.retry_verdict.ensures.value)))
     (λ is. try_waiting m w line access
     ∙ turn_by_verdict m w line access _ c.in-Some.ensures.value
     (retried_here m w line access _ _ _ _ c.encounter.ensures.access c.encounter.ensures.line
-    c.encounter.ensures.time (sym is ∙ c.retried.ensures.value)))
+    c.encounter.ensures.time (sym is ∙ c.retry_verdict.ensures.value)))
     c.in-OwnLine.is

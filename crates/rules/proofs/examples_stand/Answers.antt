@@ -2,7 +2,7 @@ use Rattle.rules.proofs.Examples.{two_writers_apart, writer_reader_apart, reader
 use Rattle.rules.proofs.Examples.{same_stamp_apart}
 use Rattle.rules.proofs.Examples.{settled_load_found, chain_of_three, stamp_kept, stamp_taken_early}
 use Rattle.rules.proofs.Examples.{lost_update_unexplained}
-use Rattle.rules.proofs.definitions_tell.Goals as goal
+use Rattle.rules.proofs.examples_stand.Goals as goal
 
 pub returns : goal.returns
 returns c =

@@ -13,7 +13,7 @@ use Rattle.book.specs.Entries.{entry_after_add, entry_after_release}
 use Rattle.book.specs.Entries.{entry_stores, entry_owner}
 use Rattle.book.specs.Exact.{Exact, exact, exact_new, entry_at, with_entry}
 use Rattle.book.specs.Earliest.{is_granted, state_after_granted, state_after_call, both_after_call}
-use Rattle.book.specs.Earliest.{both_after_calls, IsEarliest}
+use Rattle.book.specs.Earliest.{both_after_calls, NeverEarlierThanExact}
 use Rattle.book.specs.Grants.{grant_result}
 use Rattle.book.specs.declared.refused.Refused.{Refused}
 use Rattle.book.specs.declared.entry.Entry.{Entry}
@@ -236,7 +236,7 @@ module _ (k : Kind) (keeps : Keeps k) where
       let mark = sound.mark_bound in
       omega arith
 
-  pub exact_is_earliest : IsEarliest k
+  pub exact_is_earliest : NeverEarlierThanExact k
   unfolding Followed
   exact_is_earliest s good new calls =
       let both : k.State × Exact = both_after_calls k (s, exact_new) calls in

@@ -37,7 +37,7 @@ both_after_calls k both (call ∷ calls) = both_after_calls k (both_after_call k
 
 -- No write stamp and no read mark of the exact book is later than the other book's, nor is its
 -- latest stamp, and it grants every call that the other grants.
-pub record NoLater (k : Kind) (both : k.State × Exact) : Type 0 where
+pub record ExactIsNoLater (k : Kind) (both : k.State × Exact) : Type 0 where
   pub stamps : (n : ℕ) → n < line_limit → exact.write_stamp both.1 n ≤ k.write_stamp both.0 n
   pub marks : (n : ℕ) → n < line_limit
       → earlier (k.read_mark both.0 n) (exact.read_mark both.1 n) ≡ false
@@ -46,6 +46,6 @@ pub record NoLater (k : Kind) (both : k.State × Exact) : Type 0 where
       → is_granted exact both.1 call ≡ true
 
 -- That holds after any calls of two new books.
-abbrev pub IsEarliest : Kind → Type 0
-IsEarliest k = (s : k.State) → k.Good s → IsNew k s → (calls : List BookCall)
-    → NoLater k (both_after_calls k (s, exact_new) calls)
+abbrev pub NeverEarlierThanExact : Kind → Type 0
+NeverEarlierThanExact k = (s : k.State) → k.Good s → IsNew k s → (calls : List BookCall)
+    → ExactIsNoLater k (both_after_calls k (s, exact_new) calls)

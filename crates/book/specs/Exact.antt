@@ -20,24 +20,25 @@ abbrev pub HasAllLines : List Entry → Type 0
 HasAllLines entries = length entries ≡ line_limit
 
 -- no write stamp and no read mark later than the latest stamp,
-abbrev pub AreWrittenBy : List Entry → ℕ → Type 0
-AreWrittenBy entries latest = (n : ℕ) → (get_or entries n untouched_entry).stamps.write ≤ latest
+abbrev pub EntriesWrittenUpTo : List Entry → ℕ → Type 0
+EntriesWrittenUpTo entries latest = (n : ℕ)
+    → (get_or entries n untouched_entry).stamps.write ≤ latest
 
-abbrev pub AreReadBy : List Entry → ℕ → Type 0
-AreReadBy entries latest = (n : ℕ) → (get_or entries n untouched_entry).stamps.read.0 ≤ latest
+abbrev pub EntriesReadUpTo : List Entry → ℕ → Type 0
+EntriesReadUpTo entries latest = (n : ℕ) → (get_or entries n untouched_entry).stamps.read.0 ≤ latest
 
 -- and a write stamp above 0 for every line that stores hold.
-abbrev pub HeldAreStamped : List Entry → Type 0
-HeldAreStamped entries =
+abbrev pub HeldEntriesStamped : List Entry → Type 0
+HeldEntriesStamped entries =
     (n : ℕ) → 0 < entry_stores (get_or entries n untouched_entry)
     → 0 < (get_or entries n untouched_entry).stamps.write
 
 -- All of it together.
 pub record IsSound (s : Exact) : Type 0 where
   pub whole : HasAllLines s.entries
-  pub written : AreWrittenBy s.entries s.latest
-  pub read : AreReadBy s.entries s.latest
-  pub stamped : HeldAreStamped s.entries
+  pub written : EntriesWrittenUpTo s.entries s.latest
+  pub read : EntriesReadUpTo s.entries s.latest
+  pub stamped : HeldEntriesStamped s.entries
 
 -- An entry that a sound state with this latest stamp may have.
 abbrev pub FitsWithin : ℕ → Entry → Type 0

@@ -1,7 +1,8 @@
 //! The calls of a book as values, and two books that get the same calls.
 ghost use Rattle.std.specs.Prelude.{◌≡◌, Some};
 ghost use Rattle.book.specs.Grants.{grant_result};
-ghost use Rattle.book.specs.Earliest.{is_granted, state_after_call, both_after_call, IsEarliest};
+ghost use Rattle.book.specs.Earliest.{is_granted, state_after_call, both_after_call};
+ghost use Rattle.book.specs.Earliest.{NeverEarlierThanExact};
 ghost use Rattle.book.specs.ExactState.{exact_state};
 ghost use Rattle.book.specs.Printed.{call_line, call_text};
 
@@ -72,7 +73,7 @@ pub fn make_both<B: Book>(
     ensures answer { result ≡ grant_result (is_granted B.kind (B.model book.old) call) }
     ensures after { (B.model book.new, exact_state exact.new)
         ≡ both_after_call B.kind (B.model book.old, exact_state exact.old) call }
-    ensures earliest { IsEarliest B.kind }
+    ensures earliest { NeverEarlierThanExact B.kind }
 {
     make(book, call)?;
     let _ = make(exact, call);

@@ -8,8 +8,9 @@ use Rattle.std.proofs.lemmas.Bool.Decides.{nat_tests}
 use Rattle.std.specs.Option.{option_map, ok_or}
 use Rattle.protocol.specs.Faults.{fault_in_file}
 use Rattle.protocol.specs.declared.fault.Refusal.TheVariants.{BadStamp, BadLetter}
-use Rattle.calls.specs.Format.{header_fault, has_marks, two_bytes, book_named, has_sizes, warps}
-use Rattle.calls.specs.Format.{lines, stamps, values}
+use Rattle.calls.specs.Format.{header_fault, has_marks, two_bytes, book_named, has_sizes}
+use Rattle.calls.specs.Format.{warp_count}
+use Rattle.calls.specs.Format.{line_count, first_stamps, first_values}
 use Rattle.calls.specs.Format.{rows_place, late_stamp_place, numbers, rows_from, row_at, row_before}
 use Rattle.calls.specs.Format.{file_rows}
 use Rattle.calls.specs.Front.{ReadAlike, Suffices, longest_file}
@@ -61,10 +62,10 @@ module _ (bytes : List ℕ) (n : ℕ) (long : n < length bytes) (enough : longes
   marks_alike : has_marks front ≡ has_marks bytes
   marks_alike = simp (at 0 (omega arith), at 1 (omega arith), at 2 (omega arith))
 
-  warps_alike : warps front ≡ warps bytes
+  warps_alike : warp_count front ≡ warp_count bytes
   warps_alike = at 6 (omega arith)
 
-  lines_alike : lines front ≡ lines bytes
+  lines_alike : line_count front ≡ line_count bytes
   lines_alike = two_alike 7 (omega arith)
 
   sizes_alike : has_sizes front ≡ has_sizes bytes
@@ -80,23 +81,23 @@ module _ (bytes : List ℕ) (n : ℕ) (long : n < length bytes) (enough : longes
 
   -- Where the sizes are sound, the header and every row lie in the front.
   module _ (s : has_sizes bytes ≡ true) where
-    few_warps : warps bytes ≤ 32
+    few_warps : warp_count bytes ≤ 32
     few_warps = grind (arith, nat_tests)
 
-    few_lines : lines bytes ≤ 4096
+    few_lines : line_count bytes ≤ 4096
     few_lines = grind (arith, nat_tests)
 
-    stamps_alike : stamps front ≡ stamps bytes
+    stamps_alike : first_stamps front ≡ first_stamps bytes
     stamps_alike =
         let f = few_warps in
-        ap (numbers front 9) warps_alike ∙ numbers_alike (warps bytes) 9 (omega arith)
+        ap (numbers front 9) warps_alike ∙ numbers_alike (warp_count bytes) 9 (omega arith)
 
-    values_alike : values front ≡ values bytes
+    values_alike : first_values front ≡ first_values bytes
     values_alike =
         let f = few_warps in
         let g = few_lines in
         ap₂ (λ w l. numbers front (9 + 4 * w) l) warps_alike lines_alike
-        ∙ numbers_alike (lines bytes) (9 + 4 * warps bytes) (omega arith)
+        ∙ numbers_alike (line_count bytes) (9 + 4 * warp_count bytes) (omega arith)
 
     place_alike : rows_place front ≡ rows_place bytes
     place_alike = ap₂ (λ w l. 9 + 4 * w + 4 * l) warps_alike lines_alike

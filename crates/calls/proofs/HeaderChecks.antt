@@ -7,11 +7,11 @@ use Rattle.protocol.specs.declared.fault.Fault.{Fault}
 use Rattle.protocol.specs.declared.fault.Refusal.TheVariants.{BadSize, BadStamp, BadMark}
 use Rattle.protocol.specs.declared.fault.Refusal.TheVariants.{BadVersion}
 use Rattle.protocol.specs.declared.fault.Refusal.TheVariants.{BadLetter}
-use Rattle.calls.specs.Format.{header_fault, first_found, has_marks, two_bytes, book_named}
+use Rattle.calls.specs.Format.{header_fault, first_fault, has_marks, two_bytes, book_named}
 use Rattle.calls.specs.Format.{has_sizes}
-use Rattle.calls.specs.Format.{rows_place, late_stamp_place, stamps}
+use Rattle.calls.specs.Format.{rows_place, late_stamp_place, first_stamps}
 
-only_found : (found : Option Fault) → first_found (found ∷ []) ≡ found
+only_found : (found : Option Fault) → first_fault (found ∷ []) ≡ found
 only_found None = refl
 only_found (Some fault) = refl
 
@@ -39,7 +39,7 @@ module _ (bytes : List ℕ) where
           pub long_enough :
               leb (rows_place bytes) (length bytes) ≡ true
               → header_fault bytes ≡ option_map (fault_in_file BadStamp)
-              (late_stamp_place 9 (stamps bytes))
+              (late_stamp_place 9 (first_stamps bytes))
           long_enough e = simp (m, v, b, s, e) (only_found _)
 
   -- A sound header has sound sizes.

@@ -10,7 +10,7 @@ use Rattle.std.proofs.lemmas.Bool.Decides.{nat_tests}
 use Rattle.protocol.specs.Faults.{fault_in_file}
 use Rattle.protocol.specs.Limits.{last_stamp}
 use Rattle.protocol.specs.declared.fault.Refusal.TheVariants.{BadStamp}
-use Rattle.calls.specs.Format.{header_fault, numbers, stamps, values, rows_place}
+use Rattle.calls.specs.Format.{header_fault, numbers, first_stamps, first_values, rows_place}
 use Rattle.calls.specs.Headers.{HasShape}
 use Rattle.calls.specs.declared.header.Shape.{Shape}
 use Rattle.calls.proofs.HeaderChecks.{long_enough}
@@ -43,7 +43,7 @@ module _ (bytes : List ℕ) (shape : Shape) (shaped : HasShape bytes shape) wher
       these_stamps : items ≡ numbers bytes 9 shape.warps
       these_stamps = read ∙ numbers_of_part bytes 9 values_at shape.warps refl (omega arith)
 
-      pub stamps_are : items ≡ stamps bytes
+      pub stamps_are : items ≡ first_stamps bytes
       stamps_are = these_stamps ∙ ap (numbers bytes 9) shaped.warps
 
       pub stamps_many : length items ≤ 32
@@ -59,7 +59,7 @@ module _ (bytes : List ℕ) (shape : Shape) (shaped : HasShape bytes shape) wher
           long_enough bytes shaped.marks shaped.version (ap is_some shaped.book) shaped.size
           (le-leb (rows_place bytes) (length bytes) (rw (← place_is) long))
           ∙ ap (option_map (fault_in_file BadStamp))
-          (late_by_number 9 (stamps bytes)
+          (late_by_number 9 (first_stamps bytes)
           ∙ ap (option_map (λ k. 9 + 4 * k))
           (ap (position (λ stamp. nat_lt last_stamp stamp)) (sym stamps_are) ∙ sym e))
 
@@ -68,7 +68,7 @@ module _ (bytes : List ℕ) (shape : Shape) (shaped : HasShape bytes shape) wher
       these_values : items ≡ numbers bytes (9 + 4 * shape.warps) shape.lines
       these_values = read ∙ numbers_of_part bytes values_at rows_at shape.lines refl long
 
-      pub values_are : items ≡ values bytes
+      pub values_are : items ≡ first_values bytes
       values_are = these_values ∙ ap₂ (λ w l. numbers bytes (9 + 4 * w) l) shaped.warps shaped.lines
 
       pub values_many : length items ≤ 4096

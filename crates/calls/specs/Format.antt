@@ -55,28 +55,28 @@ BooksKeepLetters = (letter : ℕ) (kind : BookKind) → book_named letter ≡ So
 -- of lines, a first stamp for each warp and a value for each line. Rows follow to the end of the
 -- file.
 module _ (bytes : List ℕ) where
-  abbrev pub warps : ℕ
-  warps = slice_index bytes 6
+  abbrev pub warp_count : ℕ
+  warp_count = slice_index bytes 6
 
-  abbrev pub lines : ℕ
-  lines = two_bytes bytes 7
+  abbrev pub line_count : ℕ
+  line_count = two_bytes bytes 7
 
-  abbrev pub stamps : List ℕ
-  stamps = numbers bytes 9 warps
+  abbrev pub first_stamps : List ℕ
+  first_stamps = numbers bytes 9 warp_count
 
-  abbrev pub values : List ℕ
-  values = numbers bytes (9 + 4 * warps) lines
+  abbrev pub first_values : List ℕ
+  first_values = numbers bytes (9 + 4 * warp_count) line_count
 
   abbrev pub rows_place : ℕ
-  rows_place = 9 + 4 * warps + 4 * lines
+  rows_place = 9 + 4 * warp_count + 4 * line_count
 
   abbrev pub has_marks : Bool
   has_marks = slice_index bytes 0 == 71 && (slice_index bytes 1 == 84 && slice_index bytes 2 == 77)
 
   abbrev pub has_sizes : Bool
   has_sizes = nat_le 9 (length bytes)
-      && ((nat_lt 0 warps && nat_le warps warp_limit)
-      && (nat_lt 0 lines && nat_le lines line_limit))
+      && ((nat_lt 0 warp_count && nat_le warp_count warp_limit)
+      && (nat_lt 0 line_count && nat_le line_count line_limit))
 
 -- The place of the first stamp that is past the end of the clock, where the stamps begin at a
 -- place.
@@ -90,21 +90,21 @@ abbrev pub file_fault_unless : Bool → Refusal → ℕ → Option Fault
 file_fault_unless passes why place = cond passes None (Some (fault_in_file why place))
 
 -- The first fault that several checks find.
-abbrev pub first_found : List (Option Fault) → Option Fault
-first_found [] = None
-first_found (None ∷ rest) = first_found rest
-first_found (Some fault ∷ rest) = Some fault
+abbrev pub first_fault : List (Option Fault) → Option Fault
+first_fault [] = None
+first_fault (None ∷ rest) = first_fault rest
+first_fault (Some fault ∷ rest) = Some fault
 
 -- What is wrong with a header: the fault of the first check that fails.
 abbrev pub header_fault : List ℕ → Option Fault
 header_fault bytes =
-    first_found
+    first_fault
     (file_fault_unless (has_marks bytes) BadMark 0
     ∷ file_fault_unless (two_bytes bytes 3 == 1) BadVersion 3
     ∷ file_fault_unless (is_some (book_named (slice_index bytes 5))) BadLetter 5
     ∷ file_fault_unless (has_sizes bytes) BadSize 6
     ∷ file_fault_unless (nat_le (rows_place bytes) (length bytes)) CutShort (length bytes)
-    ∷ option_map (fault_in_file BadStamp) (late_stamp_place 9 (stamps bytes))
+    ∷ option_map (fault_in_file BadStamp) (late_stamp_place 9 (first_stamps bytes))
     ∷ [])
 
 -- The call in a row: its letter, a byte of warp, 16 bits of line and 32 bits of value. Fields that

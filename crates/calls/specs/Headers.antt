@@ -1,7 +1,8 @@
 -- What is known of a header as far as it has been read.
 use Rattle.std.specs.Prelude.{◌≡◌, ℕ, ◌+◌, true, List, length, Some, nat_eq, slice_index}
-use Rattle.calls.specs.Format.{header_fault, has_marks, two_bytes, book_named, has_sizes, warps}
-use Rattle.calls.specs.Format.{lines}
+use Rattle.calls.specs.Format.{header_fault, has_marks, two_bytes, book_named, has_sizes}
+use Rattle.calls.specs.Format.{warp_count}
+use Rattle.calls.specs.Format.{line_count}
 use Rattle.protocol.specs.declared.fault.Fault.{Fault}
 use Rattle.calls.specs.declared.header.Shape.{Shape}
 

@@ -3,7 +3,7 @@ use Rattle.std.specs.Prelude.{◌≡◌, ℕ, List, Some, None, Ok, Err, vec_ite
 use Rattle.calls.specs.declared.file.CallsFile.{CallsFile}
 use Rattle.calls.specs.declared.file.ReadError.{ReadError}
 use Rattle.calls.specs.declared.file.ReadError.TheVariants.{Damaged, NoMemory}
-use Rattle.calls.specs.Format.{header_fault, book_named, stamps, values, file_rows}
+use Rattle.calls.specs.Format.{header_fault, book_named, first_stamps, first_values, file_rows}
 
 -- The file has the content that its bytes say.
 pub record HoldsContent (bytes : List ℕ) (file : CallsFile) : Type 0 where

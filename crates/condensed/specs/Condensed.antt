@@ -176,17 +176,19 @@ HoldNumberedLines slots = (i n : ℕ) → slot_holds (slice_index_or slots i emp
     → n < line_limit
 
 -- no stamp in a slot or in the filter is later than the latest stamp;
-abbrev pub SlotsWritten : List Slot → ℕ → Type 0
-SlotsWritten slots latest = (i : ℕ) → (slot_entry (get_or slots i empty_slot)).stamps.write ≤ latest
+abbrev pub SlotsWrittenUpTo : List Slot → ℕ → Type 0
+SlotsWrittenUpTo slots latest = (i : ℕ)
+    → (slot_entry (get_or slots i empty_slot)).stamps.write ≤ latest
 
-abbrev pub SlotsRead : List Slot → ℕ → Type 0
-SlotsRead slots latest = (i : ℕ) → (slot_entry (get_or slots i empty_slot)).stamps.read.0 ≤ latest
+abbrev pub SlotsReadUpTo : List Slot → ℕ → Type 0
+SlotsReadUpTo slots latest = (i : ℕ)
+    → (slot_entry (get_or slots i empty_slot)).stamps.read.0 ≤ latest
 
-abbrev pub FilterWritten : List (List Stamps) → ℕ → Type 0
-FilterWritten filter latest = (way i : ℕ) → (stamps_at filter way i).write ≤ latest
+abbrev pub FilterWrittenUpTo : List (List Stamps) → ℕ → Type 0
+FilterWrittenUpTo filter latest = (way i : ℕ) → (stamps_at filter way i).write ≤ latest
 
-abbrev pub FilterRead : List (List Stamps) → ℕ → Type 0
-FilterRead filter latest = (way i : ℕ) → (stamps_at filter way i).read.0 ≤ latest
+abbrev pub FilterReadUpTo : List (List Stamps) → ℕ → Type 0
+FilterReadUpTo filter latest = (way i : ℕ) → (stamps_at filter way i).read.0 ≤ latest
 
 -- and every reserved slot has a write stamp above 0.
 abbrev pub SlotsStamped : List Slot → Type 0
@@ -200,10 +202,10 @@ pub record IsSound (s : Condensed) : Type 0 where
   pub four_ways : FourWays s.filter
   pub apart : HoldDistinctLines s.slots
   pub numbered : HoldNumberedLines s.slots
-  pub slots_written : SlotsWritten s.slots s.latest
-  pub slots_read : SlotsRead s.slots s.latest
-  pub filter_written : FilterWritten s.filter s.latest
-  pub filter_read : FilterRead s.filter s.latest
+  pub slots_written : SlotsWrittenUpTo s.slots s.latest
+  pub slots_read : SlotsReadUpTo s.slots s.latest
+  pub filter_written : FilterWrittenUpTo s.filter s.latest
+  pub filter_read : FilterReadUpTo s.filter s.latest
   pub slots_stamped : SlotsStamped s.slots
 
 -- The condensed book, with sixteen slots.

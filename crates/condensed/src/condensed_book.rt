@@ -3,7 +3,7 @@ ghost use Rattle.std.specs.Prelude.{◌≡◌, ◌<◌, max, is_some, Some, None
 ghost use Rattle.std.specs.Option.{option_map};
 ghost use Rattle.protocol.specs.Limits.{line_limit};
 ghost use Rattle.book.specs.Meaning.{IsNew};
-ghost use Rattle.book.specs.Earliest.{IsEarliest};
+ghost use Rattle.book.specs.Earliest.{NeverEarlierThanExact};
 ghost use Rattle.book.specs.Exact.{FitsWithin};
 ghost use Rattle.condensed.specs.Condensed.{IsSound, IsBounded, condensed, condensed_of};
 ghost use Rattle.condensed.specs.Condensed.{condensed_new};
@@ -36,7 +36,7 @@ impl CondensedBook {
     pub fn new() -> CondensedBook
         ensures value { condensed_state result ≡ condensed_new }
         ensures new { IsNew condensed (condensed_state result) }
-        ensures never_earlier { IsEarliest condensed }
+        ensures never_earlier { NeverEarlierThanExact condensed }
         ensures full { NoSlotForASeventeenth }
         ensures example { SharedMark }
     {

@@ -11,7 +11,7 @@ use Rattle.protocol.specs.declared.fault.Fault.{Fault}
 use Rattle.book.specs.Meaning.{Kind}
 use Rattle.rules.specs.Queue.{product_policy}
 use Rattle.rules.specs.Runs.{Event, Run, event_of, run_with_call, run}
-use Rattle.rules.specs.State.{Machine}
+use Rattle.rules.specs.State.{MachineState}
 use Rattle.rules.specs.Steps.{step}
 use Rattle.machine.specs.Running.{answers_in}
 use Rattle.listing.specs.Listing.{call_rows, end_rows, run_text}
@@ -24,18 +24,18 @@ use Rattle.explain.proofs.Scan.{row_with_note, more_rows}
 module _ {k : Kind} where
   -- The rows of calls from a place on, each made of the machine that those before it leave, and of
   -- the end.
-  unfoldable pub rows_from : ℕ → Machine k → List Call → Option Fault → ℕ → List ℕ
+  unfoldable pub rows_from : ℕ → MachineState k → List Call → Option Fault → ℕ → List ℕ
   rows_from place m [] found limit = end_rows found m.lines limit
   rows_from place m (call ∷ calls) found limit =
       call_row place call (step (product_policy k) m call).answer
       ++ rows_from (place + 1) (step (product_policy k) m call).machine calls found limit
 
   -- What calls leave, and what they answer.
-  abbrev after : Machine k → List Call → Machine k
+  abbrev after : MachineState k → List Call → MachineState k
   after m [] = m
   after m (call ∷ calls) = after (step (product_policy k) m call).machine calls
 
-  abbrev answers_from : Machine k → List Call → List (Result Answer Fault)
+  abbrev answers_from : MachineState k → List Call → List (Result Answer Fault)
   answers_from m [] = []
   answers_from m (call ∷ calls) = (step (product_policy k) m call).answer
       ∷ answers_from (step (product_policy k) m call).machine calls
@@ -61,7 +61,7 @@ module _ {k : Kind} where
       ∙ append_assoc (answers_in r.events) (s.answer ∷ []) (answers_from s.machine calls)
 
   rows_of_calls :
-      (place : ℕ) (m : Machine k) (calls : List Call) (found : Option Fault) (limit : ℕ)
+      (place : ℕ) (m : MachineState k) (calls : List Call) (found : Option Fault) (limit : ℕ)
       → call_rows place calls (answers_from m calls) ++ end_rows found (after m calls).lines limit
       ≡ rows_from place m calls found limit
   unfolding rows_from
@@ -75,7 +75,7 @@ module _ {k : Kind} where
       (rows_of_calls (place + 1) s.machine calls found limit)
 
   pub rows_of_run :
-      (m : Machine k) (calls : List Call) (found : Option Fault) (limit : ℕ)
+      (m : MachineState k) (calls : List Call) (found : Option Fault) (limit : ℕ)
       → run_text (run (product_policy k) m calls) calls found limit ≡ rows_from 1 m calls found
       limit
   rows_of_run m calls found limit =
@@ -83,7 +83,7 @@ module _ {k : Kind} where
       ap (λ answers. call_rows 1 calls answers
       ++ end_rows found (run (product_policy k) m calls).machine.lines limit)
       (run_answered start calls)
-      ∙ ap (λ (n : Machine k). call_rows 1 calls (answers_from m calls)
+      ∙ ap (λ (n : MachineState k). call_rows 1 calls (answers_from m calls)
       ++ end_rows found n.lines limit)
       (run_after start calls)
       ∙ rows_of_calls 1 m calls found limit
@@ -120,7 +120,7 @@ one_call_more calls i other more = rw add-one (drop-cons calls i other more)
 module _ {k : Kind} where
   -- A call's row is added.
   pub lacks_next_rows :
-      (m m' : Machine k) (calls : List Call) (i : ℕ) (other : Call) (found : Option Fault)
+      (m m' : MachineState k) (calls : List Call) (i : ℕ) (other : Call) (found : Option Fault)
       (limit : ℕ)
       (old new whole : List ℕ)
       → LacksRows old (rows_from (i + 1) m (drop i calls) found limit) whole
@@ -149,7 +149,8 @@ module _ {k : Kind} where
 
   -- The end is added.
   pub rows_complete :
-      {A E : Type 0} (r : Result (String A) E) (first m : Machine k) (calls : List Call) (i : ℕ)
+      {A E : Type 0} (r : Result (String A) E) (first m : MachineState k) (calls : List Call)
+      (i : ℕ)
       (found : Option Fault) (limit : ℕ) (text : List ℕ)
       → length calls ≤ i
       → LacksRows text (rows_from (i + 1) m (drop i calls) found limit)

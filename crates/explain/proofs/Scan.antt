@@ -4,22 +4,23 @@ use Rattle.std.proofs.Common.{append_assoc, append-nil, refl, sym, ap, ◌∙◌
 use Rattle.std.specs.Str.Iter.{LacksByte}
 use Rattle.std.proofs.lemmas.Bool.Decides.{nat_tests}
 use Rattle.std.proofs.lemmas.List.Elements.{All-head, All-tail}
-use Rattle.explain.specs.Notes.{Place, at_start, in_row, in_note, place_after, kept_byte, kept_from}
+use Rattle.explain.specs.Notes.{LinePart, at_start, in_row, in_note, place_after, kept_byte}
+use Rattle.explain.specs.Notes.{kept_from}
 use Rattle.explain.specs.Notes.{without_notes}
 use Rattle.explain.specs.Notes.{with_feeds, is_note, lines_without_notes, DropsNotes, indented}
 use Rattle.explain.specs.Notes.{indented_line}
 use Rattle.explain.specs.Notes.{IsNote, AddsRow, AddsRows}
 
 -- Of bytes that begin at a place some are kept, and what follows them begins at another.
-abbrev pub Gives : Place → List ℕ → List ℕ → Place → Type 0
+abbrev pub Gives : LinePart → List ℕ → List ℕ → LinePart → Type 0
 Gives p bytes kept q = (rest : List ℕ) → kept_from p (bytes ++ rest) ≡ kept ++ kept_from q rest
 
 -- All of them are kept.
-abbrev pub Keeps : Place → List ℕ → Place → Type 0
+abbrev pub Keeps : LinePart → List ℕ → LinePart → Type 0
 Keeps p bytes q = Gives p bytes bytes q
 
 pub gives_append :
-    (p q r : Place) (a b ka kb : List ℕ) → Gives p a ka q → Gives q b kb r
+    (p q r : LinePart) (a b ka kb : List ℕ) → Gives p a ka q → Gives q b kb r
     → Gives p (a ++ b) (ka ++ kb) r
 gives_append p q r a b ka kb first second rest =
     ap (λ t. kept_from p t) (append_assoc a b rest)

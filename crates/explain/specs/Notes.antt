@@ -5,32 +5,33 @@ use Rattle.std.specs.List.{flat_map}
 use Rattle.std.specs.Str.Iter.{LacksByte}
 
 -- Where a byte stands: at the start of a line, further on in a row, or further on in a note.
-pub data Place : Type 0 where
-  at_start : Place
-  in_row : Place
-  in_note : Place
+pub data LinePart : Type 0 where
+  at_start : LinePart
+  in_row : LinePart
+  in_note : LinePart
 
 -- Whether a byte belongs to a row or to a note: the first byte of the line decides.
-abbrev pub line_of : Place → ℕ → Place
-line_of at_start byte = cond (byte == 32) in_note in_row
-line_of in_row byte = in_row
-line_of in_note byte = in_note
+abbrev pub place_in_line : LinePart → ℕ → LinePart
+place_in_line at_start byte = cond (byte == 32) in_note in_row
+place_in_line in_row byte = in_row
+place_in_line in_note byte = in_note
 
 -- Where the next byte stands: a line feed ends the line.
-abbrev pub place_after : Place → ℕ → Place
+abbrev pub place_after : LinePart → ℕ → LinePart
 place_after line byte = cond (byte == 10) at_start line
 
 -- A byte of a row is kept; a byte of a note is not.
-abbrev pub kept_byte : Place → ℕ → List ℕ
+abbrev pub kept_byte : LinePart → ℕ → List ℕ
 kept_byte at_start byte = byte ∷ []
 kept_byte in_row byte = byte ∷ []
 kept_byte in_note byte = []
 
 -- The bytes that are kept, where the first of them stands at a place.
-unfoldable pub kept_from : Place → List ℕ → List ℕ
+unfoldable pub kept_from : LinePart → List ℕ → List ℕ
 kept_from place [] = []
 kept_from place (byte ∷ rest) =
-    kept_byte (line_of place byte) byte ++ kept_from (place_after (line_of place byte) byte) rest
+    kept_byte (place_in_line place byte) byte
+    ++ kept_from (place_after (place_in_line place byte) byte) rest
 
 -- A text without its notes.
 abbrev pub without_notes : List ℕ → List ℕ

@@ -1,7 +1,7 @@
 //! What a call finds: facts that are read from the machine before the call.
 ghost use Rattle.std.specs.Prelude.{◌≡◌, IfOk};
 ghost use Rattle.machine.specs.Meaning.{state, policy_of};
-ghost use Rattle.explain.specs.Before.{verdict_met, line_met, line_facts, IsBefore};
+ghost use Rattle.explain.specs.Before.{verdict_before, line_before, line_facts, IsBefore};
 
 use crate::waiting::find_waiting;
 use book::Book;
@@ -58,7 +58,7 @@ pub fn facts_before<M: Memory, B: Book>(
 // The verdict of the access steps on a load or a store; none for other calls.
 fn find_verdict<M: Memory, B: Book>(machine: &Machine<M, B>, call: Call) -> Option<Verdict>
     ensures { result
-        ≡ verdict_met (policy_of B.kind machine.now) (state M.at B.kind B.model machine.now) call }
+        ≡ verdict_before (policy_of B.kind machine.now) (state M.at B.kind B.model machine.now) call }
 {
     let Call { warp, op } = call;
     match op {
@@ -78,7 +78,7 @@ fn find_verdict<M: Memory, B: Book>(machine: &Machine<M, B>, call: Call) -> Opti
 
 // The line that a call names, or else the one that its warp waits for.
 fn find_line<M: Memory, B: Book>(machine: &Machine<M, B>, call: Call) -> Option<LineFacts>
-    ensures { result ≡ line_met (state M.at B.kind B.model machine.now) call }
+    ensures { result ≡ line_before (state M.at B.kind B.model machine.now) call }
 {
     match call.op {
         Op::Load { line } | Op::Store { line, .. } => Some(line_facts(machine.book(), line)),

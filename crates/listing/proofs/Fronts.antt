@@ -1,14 +1,14 @@
 -- Files that are read alike are listed alike.
 use Rattle.std.proofs.Common.{◌≡◌, ℕ, List, Some, None, Option, refl, ap, ◌∙◌}
 use Rattle.protocol.specs.declared.fault.Fault.{Fault}
-use Rattle.calls.specs.Format.{header_fault, book_named, stamps, values, file_rows}
+use Rattle.calls.specs.Format.{header_fault, book_named, first_stamps, first_values, file_rows}
 use Rattle.calls.specs.Front.{ReadAlike, Suffices}
 use Rattle.calls.specs.declared.file.BookKind.{BookKind}
 use Rattle.listing.specs.Listing.{sound_text, file_text, listing_text, FrontIsEnough}
 
 module _ (a b : List ℕ) where
   sound_alike :
-      (named : Option BookKind) → stamps a ≡ stamps b → values a ≡ values b
+      (named : Option BookKind) → first_stamps a ≡ first_stamps b → first_values a ≡ first_values b
       → file_rows a ≡ file_rows b
       → sound_text named a ≡ sound_text named b
   sound_alike None s v r = refl

@@ -10,7 +10,7 @@ use Rattle.book.specs.Meaning.{Kind}
 use Rattle.condensed.specs.Condensed.{condensed, condensed_new}
 use Rattle.rules.specs.Runs.{Run}
 use Rattle.machine.specs.Running.{run_of, answers_in}
-use Rattle.calls.specs.Format.{header_fault, book_named, stamps, values, file_rows}
+use Rattle.calls.specs.Format.{header_fault, book_named, first_stamps, first_values, file_rows}
 use Rattle.calls.specs.declared.file.BookKind.{BookKind}
 use Rattle.calls.specs.declared.file.BookKind.TheVariants.{Exact, Condensed}
 use Rattle.calls.specs.declared.file.CallsFile.{CallsFile}
@@ -45,11 +45,13 @@ run_text r calls found limit =
 
 -- The listing of a new machine whose memory has some words, over the book that the file asks for.
 unfoldable pub book_text : BookKind → List ℕ → List ℕ → List Call → Option Fault → List ℕ
-book_text Exact stamps values calls found =
-    run_text (run_of exact (word_lines values) exact_new stamps calls) calls found (length values)
-book_text Condensed stamps values calls found =
-    run_text (run_of condensed (word_lines values) condensed_new stamps calls) calls found
-    (length values)
+book_text Exact first_stamps first_values calls found =
+    run_text (run_of exact (word_lines first_values) exact_new first_stamps calls) calls found
+    (length first_values)
+book_text Condensed first_stamps first_values calls found =
+    run_text (run_of condensed (word_lines first_values) condensed_new first_stamps calls) calls
+    found
+    (length first_values)
 
 -- The listing of a file whose header is sound, from the content that was read.
 abbrev pub calls_file_text : CallsFile → List ℕ
@@ -61,7 +63,8 @@ calls_file_text file =
 abbrev pub sound_text : Option BookKind → List ℕ → List ℕ
 sound_text None bytes = []
 sound_text (Some kind) bytes =
-    book_text kind (stamps bytes) (values bytes) (file_rows bytes).calls (file_rows bytes).fault
+    book_text kind (first_stamps bytes) (first_values bytes) (file_rows bytes).calls
+    (file_rows bytes).fault
 
 -- The listing of a file. A damaged header gives one row, and nothing else is listed.
 abbrev pub file_text : Option Fault → List ℕ → List ℕ

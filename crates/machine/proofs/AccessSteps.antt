@@ -17,7 +17,7 @@ use Rattle.rules.specs.declared.verdict.Verdict.TheVariants.{OwnLine, Gone as Ve
 use Rattle.rules.specs.declared.verdict.Verdict.TheVariants.{GoOn}
 use Rattle.rules.specs.Access.{line_state, access_verdict, verdict_with_room}
 use Rattle.rules.specs.Queue.{Policy, is_full}
-use Rattle.rules.specs.State.{WarpRow, Machine, row_in_phase, warp_row_of, time_of}
+use Rattle.rules.specs.State.{WarpRow, MachineState, row_in_phase, warp_row_of, time_of}
 use Rattle.rules.specs.Serving.{served_on_free_line, served_on_own_line}
 use Rattle.rules.specs.Steps.{with_request_queued, step_by_verdict, access_step, fetched_step}
 use Rattle.rules.specs.Ending.{after_end}
@@ -27,15 +27,15 @@ use Rattle.rules.specs.declared.state.Request.{Request}
 use Rattle.machine.specs.CallParts.{wait_step, with_request}
 use Rattle.machine.proofs.ServeSteps.{built, with_rows_and_queue}
 
-module _ {k : Kind} (policy : Policy k) (m : Machine k) (w : ℕ) where
+module _ {k : Kind} (policy : Policy k) (m : MachineState k) (w : ℕ) where
   -- A machine and an answer are those of a step.
-  pub record Leaves (after : Machine k) (answer : Answer) (left : Machine k)
+  pub record Leaves (after : MachineState k) (answer : Answer) (left : MachineState k)
       (said : Result Answer Fault) : Type 0 where
     pub machine : after ≡ left
     pub says : Ok answer ≡ said
 
   module _ (line : ℕ) (access : Access) where
-    abbrev By : Machine k → Answer → Verdict → Type 0
+    abbrev By : MachineState k → Answer → Verdict → Type 0
     By after answer v =
         Leaves after answer (step_by_verdict policy m w line access v).machine
         (step_by_verdict policy m w line access v).answer
@@ -45,13 +45,14 @@ module _ {k : Kind} (policy : Policy k) (m : Machine k) (w : ℕ) where
     in_room v = verdict_with_room (is_full policy.line_room policy.queue_room m.queue line)
         (warp_row_of m w).stamp v
 
-    abbrev Done : Machine k → Answer → Type 0
+    abbrev Done : MachineState k → Answer → Type 0
     Done after answer =
         Leaves after answer (access_step policy m w line access).machine
         (access_step policy m w line access).answer
 
     pub access_by_verdict :
-        (after : Machine k) (answer : Answer) (v : Verdict) (wanted : Access) (facts : LineState)
+        (after : MachineState k) (answer : Answer) (v : Verdict) (wanted : Access)
+        (facts : LineState)
         (time : Time)
         → wanted ≡ access → facts ≡ line_state k m.book line → time ≡ time_of m w
         → v ≡ access_verdict wanted facts time
@@ -63,13 +64,13 @@ module _ {k : Kind} (policy : Policy k) (m : Machine k) (w : ℕ) where
         subst (λ x. By after answer (in_room x)) is by
 
     -- A request that must wait, by whether the queue is full.
-    abbrev Queues : Machine k → Answer → Type 0
+    abbrev Queues : MachineState k → Answer → Type 0
     Queues after answer =
         Leaves after answer (wait_step policy m w line access).machine
         (wait_step policy m w line access).answer
 
     pub wait_by_room :
-        (after : Machine k) (answer : Answer) (found full : Bool) (per_line lines : ℕ)
+        (after : MachineState k) (answer : Answer) (found full : Bool) (per_line lines : ℕ)
         → per_line ≡ policy.line_room → lines ≡ policy.queue_room
         → found ≡ is_full per_line lines m.queue line → found ≡ full
         → By after answer (verdict_with_room full (warp_row_of m w).stamp MustWait)
@@ -80,13 +81,13 @@ module _ {k : Kind} (policy : Policy k) (m : Machine k) (w : ℕ) where
         subst (λ x. By after answer (verdict_with_room x (warp_row_of m w).stamp MustWait))
         (sym said ∙ room) by
 
-    pub must_wait : (after : Machine k) (answer : Answer)
+    pub must_wait : (after : MachineState k) (answer : Answer)
         → after ≡ (wait_step policy m w line access).machine
         → Ok answer ≡ (wait_step policy m w line access).answer → By after answer (in_room MustWait)
     must_wait after answer a says = record { machine = a; says = says }
 
     pub on_own_line :
-        (after : Machine k) (outcome : Outcome) (answer : Answer)
+        (after : MachineState k) (outcome : Outcome) (answer : Answer)
         → after ≡ (served_on_own_line m w line access).machine
         → outcome ≡ (served_on_own_line m w line access).outcome → answer ≡ answer_of outcome
         → By after answer OwnLine
@@ -95,7 +96,7 @@ module _ {k : Kind} (policy : Policy k) (m : Machine k) (w : ℕ) where
         record { machine = a; says = ap Ok (c ∙ ap answer_of b) }
 
     pub going_on :
-        (after : Machine k) (outcome : Outcome) (answer : Answer)
+        (after : MachineState k) (outcome : Outcome) (answer : Answer)
         → after ≡ (served_on_free_line m w line access).machine
         → outcome ≡ (served_on_free_line m w line access).outcome → answer ≡ answer_of outcome
         → By after answer GoOn
@@ -103,14 +104,14 @@ module _ {k : Kind} (policy : Policy k) (m : Machine k) (w : ℕ) where
     going_on after outcome answer a b c = record { machine = a; says = ap Ok (c ∙ ap answer_of b) }
 
     pub gone :
-        (after : Machine k) (answer : Answer) (cause : Cause) (next : ℕ)
+        (after : MachineState k) (answer : Answer) (cause : Cause) (next : ℕ)
         → after ≡ (after_end policy m w next).machine
         → answer ≡ Gone cause next → By after answer (VerdictGone cause next)
     unfolding step_by_verdict
     gone after answer cause next a says = record { machine = a; says = ap Ok says }
 
     pub gone_for_room :
-        (after : Machine k) (answer : Answer) (stamp : ℕ) → stamp ≡ (warp_row_of m w).stamp
+        (after : MachineState k) (answer : Answer) (stamp : ℕ) → stamp ≡ (warp_row_of m w).stamp
         → after ≡ (after_end policy m w stamp).machine → answer ≡ Gone QueueFull stamp
         → By after answer (VerdictGone QueueFull (warp_row_of m w).stamp)
     gone_for_room after answer stamp is e says =
@@ -118,14 +119,14 @@ module _ {k : Kind} (policy : Policy k) (m : Machine k) (w : ℕ) where
         (gone after answer QueueFull stamp e says)
 
     pub queued :
-        (after : Machine k)
+        (after : MachineState k)
         → after ≡ with_request m (record { warp = w; line = line; access = access })
         → By after Wait MustWait
     unfolding step_by_verdict with_request_queued
     queued after a = record { machine = a; says = refl }
 
   -- A fetched outcome.
-  abbrev Fetched : Machine k → Answer → Outcome → Type 0
+  abbrev Fetched : MachineState k → Answer → Outcome → Type 0
   Fetched after answer o =
       Leaves after answer (fetched_step policy m w o).machine (fetched_step policy m w o).answer
 
@@ -149,7 +150,7 @@ module _ {k : Kind} (policy : Policy k) (m : Machine k) (w : ℕ) where
       which
 
   pub fetch_gone :
-      (after : Machine k) (answer : Answer) (cause : Cause) (next : ℕ) (outcome : Outcome)
+      (after : MachineState k) (answer : Answer) (cause : Cause) (next : ℕ) (outcome : Outcome)
       → outcome ≡ OutcomeGone cause next → after ≡ (after_end policy m w next).machine
       → answer ≡ Gone cause next
       → Fetched after answer outcome

@@ -4,7 +4,7 @@ use Rattle.protocol.specs.declared.call.Call.{Call}
 use Rattle.protocol.specs.declared.fault.Fault.{Fault}
 use Rattle.book.specs.Meaning.{Kind}
 use Rattle.rules.specs.Queue.{Policy}
-use Rattle.rules.specs.State.{Machine}
+use Rattle.rules.specs.State.{MachineState}
 use Rattle.rules.specs.Refusals.{fault_of}
 use Rattle.rules.specs.Steps.{accepted_step, checked_step, step}
 use Rattle.machine.specs.CallParts.{as_result}
@@ -17,7 +17,7 @@ passed_some : (o : Option Fault) (f : Fault) → Err f ≡ as_result o → o ≡
 passed_some None f e = cc
 passed_some (Some x) f e = cc
 
-module _ {k : Kind} (policy : Policy k) (m : Machine k) (call : Call) where
+module _ {k : Kind} (policy : Policy k) (m : MachineState k) (call : Call) where
   pub accepted_step_is : Ok tt ≡ as_result (fault_of m call)
       → accepted_step policy m call.warp call.op ≡ step policy m call
   accepted_step_is e = ap (checked_step policy m call) (sym (passed_none (fault_of m call) e))

@@ -11,10 +11,10 @@ use Rattle.protocol.specs.declared.call.Call.{Call}
 use Rattle.protocol.specs.declared.fault.Fault.{Fault}
 use Rattle.book.specs.Meaning.{Kind}
 use Rattle.rules.specs.Queue.{Policy}
-use Rattle.rules.specs.State.{Machine}
+use Rattle.rules.specs.State.{MachineState}
 use Rattle.rules.specs.Runs.{Event, Run, run_with_call, event_of, run}
 use Rattle.rules.specs.Steps.{step}
-use Rattle.machine.specs.Running.{answers_in, places_after, calls_made}
+use Rattle.machine.specs.Running.{answers_in, answers_after, calls_made}
 
 -- The place after the first ones is set.
 set-append_drop : {X : Type 0} (xs ys : List X) (i : ℕ) (d a : X) → length xs ≡ i → i < length ys
@@ -31,9 +31,9 @@ module _ (places : List (Result Answer Fault)) where
   places_after-answer :
       (events : List Event) (e : Event) (i : ℕ) (answers next : List (Result Answer Fault))
       (answer : Result Answer Fault)
-      → length events ≡ i → i < length places → answers ≡ places_after events places
+      → length events ≡ i → i < length places → answers ≡ answers_after events places
       → next ≡ set answers i answer
-      → answer ≡ e.answer → next ≡ places_after (events ++ e ∷ []) places
+      → answer ≡ e.answer → next ≡ answers_after (events ++ e ∷ []) places
   places_after-answer events e i answers next answer count low was set_it says =
       set_it
       ∙ ap (λ zs. set zs i answer) (was ∙ ap (λ n. answers_in events ++ drop n places) count)
@@ -56,21 +56,22 @@ module _ {k : Kind} (policy : Policy k) where
       let y = length-append r.events (event_of policy r.machine call ∷ []) in
       omega arith
 
-  pub length-events : (start : Machine k) (calls : List Call)
+  pub length-events : (start : MachineState k) (calls : List Call)
       → length (run policy start calls).events ≡ length calls
   length-events start calls = length-events_from (record { machine = start; events = [] }) calls
       ∙ (omega arith)
 
-  module _ (start : Machine k) (places : List (Result Answer Fault)) where
+  module _ (start : MachineState k) (places : List (Result Answer Fault)) where
     -- A machine and the places for answers are those of a run of some calls.
-    pub record So (calls : List Call) (machine : Machine k) (answers : List (Result Answer Fault)) :
+    pub record So (calls : List Call) (machine : MachineState k)
+        (answers : List (Result Answer Fault)) :
         Type 0 where
       pub machine_is : machine ≡ (run policy start calls).machine
-      pub answers_are : answers ≡ places_after (run policy start calls).events places
+      pub answers_are : answers ≡ answers_after (run policy start calls).events places
 
     module _ (calls : List Call) where
       pub run_with_one_more :
-          (i : ℕ) (call d : Call) (machine after : Machine k)
+          (i : ℕ) (call d : Call) (machine after : MachineState k)
           (answers next : List (Result Answer Fault))
           (answer : Result Answer Fault) → i < length calls → length calls ≤ length places
           → call ≡ get_or calls i d → So (take i calls) machine answers
@@ -96,24 +97,25 @@ module _ {k : Kind} (policy : Policy k) where
                 (event_of policy before.machine call) i answers next answer count
                 (omega arith) inv.answers_are c
                 (b ∙ ap (λ m. (step policy m call).answer) inv.machine_is)
-                ∙ ap (λ (r : Run k). places_after r.events places) at;
+                ∙ ap (λ (r : Run k). answers_after r.events places) at;
           }
 
       pub run_of_all :
-          (i : ℕ) (machine : Machine k) (answers : List (Result Answer Fault)) → length calls ≤ i
+          (i : ℕ) (machine : MachineState k) (answers : List (Result Answer Fault))
+          → length calls ≤ i
           → So (take i calls) machine answers → So calls machine answers
       run_of_all i machine answers past inv =
           let all = ap (run policy start) (take_all i calls past) in
           record {
             machine_is = inv.machine_is ∙ ap (λ (r : Run k). r.machine) all;
-            answers_are = inv.answers_are ∙ ap (λ (r : Run k). places_after r.events places) all;
+            answers_are = inv.answers_are ∙ ap (λ (r : Run k). answers_after r.events places) all;
           }
 
       -- With a place for each call, the answers are all that the places hold.
       pub answers_of_all :
           (len : ℕ) (answers rest : List (Result Answer Fault)) → length places ≡ length calls
           → len ≡ length calls
-          → answers ≡ places_after (run policy start (calls_made calls places)).events places
+          → answers ≡ answers_after (run policy start (calls_made calls places)).events places
           → take len (answers ++ rest) ≡ answers_in (run policy start calls).events
       answers_of_all len answers rest room is e =
           let events = (run policy start calls).events in
@@ -121,7 +123,7 @@ module _ {k : Kind} (policy : Policy k) where
           let made : calls_made calls places ≡ calls =
           take_all (length places) calls (omega arith) in
           let whole : answers ≡ answers_in events =
-          e ∙ ap (λ cs. places_after (run policy start cs).events places) made
+          e ∙ ap (λ cs. answers_after (run policy start cs).events places) made
           ∙ ap (λ ps. answers_in events ++ ps) (drop_all (length events) places (omega arith))
           ∙ append-nil (answers_in events) in
           take_at answers rest len

@@ -4,7 +4,7 @@ use Rattle.std.proofs.Common.{take, take_all, Some, ⊎_elim, refl, sym, ap, ◌
 use Rattle.std.proofs.lemmas.Bool.{cases_lt}
 use Rattle.std.proofs.lemmas.Bool.Decides.{nat_tests}
 use Rattle.std.specs.List.{find, list_any}
-use Rattle.rules.specs.Lists.{has}
+use Rattle.rules.specs.Lists.{contains_number}
 use Rattle.rules.specs.Queue.{request_of, requests_on}
 use Rattle.rules.specs.declared.state.Request.{Request}
 
@@ -13,7 +13,7 @@ pub find-request_of : (q : List Request) (w : ℕ)
 find-request_of [] w = refl
 find-request_of (r ∷ rest) w = ap (cond (eqb r.warp w) (Some r)) (find-request_of rest w)
 
-pub has_by_list_any : (ns : List ℕ) (n : ℕ) → has n ns ≡ list_any (λ m. eqb m n) ns
+pub has_by_list_any : (ns : List ℕ) (n : ℕ) → contains_number n ns ≡ list_any (λ m. eqb m n) ns
 has_by_list_any [] n = refl
 has_by_list_any (m ∷ rest) n = ap (λ b. eqb m n || b) (has_by_list_any rest n)
 

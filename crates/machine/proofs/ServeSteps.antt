@@ -5,7 +5,8 @@ use Rattle.protocol.specs.Limits.{log_limit}
 use Rattle.protocol.specs.declared.answer.Outcome.TheVariants.{Value, Stored}
 use Rattle.memory.specs.Lines.{Lines}
 use Rattle.book.specs.Meaning.{Kind, state_after_add}
-use Rattle.rules.specs.State.{WarpRow, Machine, row_with_store, with_book, warp_row_at, warp_row_of}
+use Rattle.rules.specs.State.{WarpRow, MachineState, row_with_store, with_book, warp_row_at}
+use Rattle.rules.specs.State.{warp_row_of}
 use Rattle.rules.specs.Serving.{memory_value, with_read_noted, served_on_free_line}
 use Rattle.rules.specs.Serving.{served_on_own_line}
 use Rattle.rules.specs.declared.state.Access.{Access}
@@ -15,13 +16,13 @@ use Rattle.machine.specs.Warps.{has_room}
 use Rattle.machine.specs.CallParts.{own_value, with_line_reserved}
 
 module _ {k : Kind} where
-  abbrev pub built : Lines → k.State → List WarpRow → List Request → Machine k
+  abbrev pub built : Lines → k.State → List WarpRow → List Request → MachineState k
   built lines book warp_rows queue =
       record { lines = lines; book = book; warp_rows = warp_rows; queue = queue }
 
   -- A machine whose rows and queue are changed last.
   pub with_rows_and_queue :
-      (m n : Machine k) (warp_rows : List WarpRow) (queue : List Request) (f : List WarpRow
+      (m n : MachineState k) (warp_rows : List WarpRow) (queue : List Request) (f : List WarpRow
       → List WarpRow)
       (q : List Request → List Request) → m ≡ n → warp_rows ≡ f m.warp_rows → queue ≡ q m.queue
       → built m.lines m.book warp_rows queue
@@ -29,13 +30,13 @@ module _ {k : Kind} where
   with_rows_and_queue m n warp_rows queue f q e a b =
       ap (λ ls. built m.lines m.book ls queue) a
       ∙ ap (λ qs. built m.lines m.book (f m.warp_rows) qs) b
-      ∙ ap (λ (x : Machine k). built x.lines x.book (f x.warp_rows) (q x.queue)) e
+      ∙ ap (λ (x : MachineState k). built x.lines x.book (f x.warp_rows) (q x.queue)) e
 
-  module _ (m : Machine k) (w line : ℕ) where
+  module _ (m : MachineState k) (w line : ℕ) where
     abbrev rows_with_store : ℕ → List WarpRow → List WarpRow
     rows_with_store value ls = set ls w (row_with_store (warp_row_at ls w) line value)
 
-    pub read_served : (after : Machine k) (access : Access) → access ≡ Read
+    pub read_served : (after : MachineState k) (access : Access) → access ≡ Read
         → after ≡ with_read_noted m w line
         → after ≡ (served_on_free_line m w line access).machine
     unfolding served_on_free_line
@@ -48,7 +49,7 @@ module _ {k : Kind} where
         ap Value e ∙ ap (λ a. (served_on_free_line m w line a).outcome) (sym is)
 
     pub write_served :
-        (mid : Machine k) (warp_rows : List WarpRow) (queue : List Request) (value : ℕ)
+        (mid : MachineState k) (warp_rows : List WarpRow) (queue : List Request) (value : ℕ)
         (access : Access)
         → access ≡ Write value
         → mid ≡ with_line_reserved m w line → warp_rows ≡ rows_with_store value mid.warp_rows
@@ -65,7 +66,7 @@ module _ {k : Kind} where
     unfolding served_on_free_line
     write_stored value access is = ap (λ a. (served_on_free_line m w line a).outcome) (sym is)
 
-    pub own_read_served : (after : Machine k) (access : Access) → access ≡ Read
+    pub own_read_served : (after : MachineState k) (access : Access) → access ≡ Read
         → after ≡ with_read_noted m w line
         → after ≡ (served_on_own_line m w line access).machine
     unfolding served_on_own_line

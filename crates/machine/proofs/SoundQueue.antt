@@ -17,9 +17,9 @@ use Rattle.rules.specs.declared.state.Phase.TheVariants.{Idle, Open, Waiting, Se
 use Rattle.rules.specs.declared.state.Request.{Request}
 use Rattle.machine.proofs.WarpRows.{warp_row_row, log_long}
 use Rattle.machine.specs.Warps.{warp_rows, queue_of, warp_row, has_room}
-use Rattle.machine.specs.Phases.{is_open, is_settled, highest_in}
+use Rattle.machine.specs.Phases.{is_open, is_settled, highest_stamp_in}
 use Rattle.machine.specs.Rows.{no_row, warp_row_in}
-use Rattle.machine.specs.Soundness.{is_fitting, is_sound, IsSound}
+use Rattle.machine.specs.Soundness.{is_fitting, fits_rows, QueueFitsRows}
 use Rattle.machine.specs.declared.row.Row.{Row}
 use Rattle.machine.specs.declared.warps.Warps.{Warps}
 
@@ -38,9 +38,9 @@ waiting_if_fitting row (Write value) e = (and_parts _ _ e).0
 record Parts (rows : List Row) (r : Request) (rest : List Request) : Type 0 where
   first_fits : is_fitting (get_or rows r.warp no_row) r.access ≡ true
   alone : has_request rest r.warp ≡ false
-  sound_rest : is_sound rows rest ≡ true
+  sound_rest : fits_rows rows rest ≡ true
 
-parts : (rows : List Row) (r : Request) (rest : List Request) → IsSound rows (r ∷ rest)
+parts : (rows : List Row) (r : Request) (rest : List Request) → QueueFitsRows rows (r ∷ rest)
     → Parts rows r rest
 parts rows r rest s =
     let a = and_parts _ _ s in
@@ -48,7 +48,7 @@ parts rows r rest s =
     record { first_fits = a.0; alone = not-true _ b.0; sound_rest = b.1 }
 
 whole : (rows : List Row) (r : Request) (rest : List Request) → Parts rows r rest
-    → IsSound rows (r ∷ rest)
+    → QueueFitsRows rows (r ∷ rest)
 whole rows r rest p =
     and_from _ _ p.first_fits (and_from _ _ (not_from_false _ p.alone) p.sound_rest)
 
@@ -64,7 +64,7 @@ no_request_of_other r rest w ne e = grind (arith, nat_tests)
 
 -- A warp that does not wait has no request.
 pub no_request_of :
-    (rows : List Row) (q : List Request) (w : ℕ) → IsSound rows q → waits_in rows w ≡ false
+    (rows : List Row) (q : List Request) (w : ℕ) → QueueFitsRows rows q → waits_in rows w ≡ false
     → has_request q w ≡ false
 no_request_of rows [] w s e = refl
 no_request_of rows (r ∷ rest) w s e =
@@ -77,9 +77,9 @@ no_request_of rows (r ∷ rest) w s e =
 
 -- The queue stays sound if the row of a warp without a request changes,
 pub IsSound-set :
-    (rows : List Row) (q : List Request) (w : ℕ) (row : Row) → IsSound rows q
+    (rows : List Row) (q : List Request) (w : ℕ) (row : Row) → QueueFitsRows rows q
     → has_request q w ≡ false
-    → IsSound (set rows w row) q
+    → QueueFitsRows (set rows w row) q
 IsSound-set rows [] w row s e = refl
 IsSound-set rows (r ∷ rest) w row s e =
     let p = parts rows r rest s in
@@ -107,8 +107,8 @@ no_request_left [] w = refl
 no_request_left (r ∷ rest) w = let rest_gone = no_request_left rest w
     in grind (arith, nat_tests, rest_gone)
 
-pub IsSound-queue_without : (rows : List Row) (q : List Request) (w : ℕ) → IsSound rows q
-    → IsSound rows (queue_without q w)
+pub IsSound-queue_without : (rows : List Row) (q : List Request) (w : ℕ) → QueueFitsRows rows q
+    → QueueFitsRows rows (queue_without q w)
 IsSound-queue_without rows [] w s = refl
 IsSound-queue_without rows (r ∷ rest) w s =
     let p = parts rows r rest s in
@@ -126,9 +126,9 @@ no_request_with (x ∷ xs) r w e ne =
     no_request_of_other x (xs ++ r ∷ []) w n.0 (no_request_with xs r w n.1 ne)
 
 pub IsSound-push :
-    (rows : List Row) (q : List Request) (r : Request) → IsSound rows q
+    (rows : List Row) (q : List Request) (r : Request) → QueueFitsRows rows q
     → has_request q r.warp ≡ false
-    → is_fitting (get_or rows r.warp no_row) r.access ≡ true → IsSound rows (q ++ r ∷ [])
+    → is_fitting (get_or rows r.warp no_row) r.access ≡ true → QueueFitsRows rows (q ++ r ∷ [])
 IsSound-push rows [] r s e f =
     whole rows r [] (record { first_fits = f; alone = refl; sound_rest = refl })
 IsSound-push rows (x ∷ xs) r s e f =
@@ -143,7 +143,7 @@ IsSound-push rows (x ∷ xs) r s e f =
 
 -- The request of a warp fits its row.
 pub request_fits :
-    (rows : List Row) (q : List Request) (w : ℕ) (r : Request) → IsSound rows q
+    (rows : List Row) (q : List Request) (w : ℕ) (r : Request) → QueueFitsRows rows q
     → request_of q w ≡ Some r
     → is_fitting (get_or rows w no_row) r.access ≡ true
 request_fits rows [] w r s e = cc
@@ -179,7 +179,7 @@ waiting_less (row ∷ rows) (suc w) e =
     let h = waiting_less rows w e in
     omega arith
 
-length-queue-waiting : (rows : List Row) (q : List Request) → IsSound rows q
+length-queue-waiting : (rows : List Row) (q : List Request) → QueueFitsRows rows q
     → length q ≤ waiting rows
 length-queue-waiting rows [] s = omega arith
 length-queue-waiting rows (r ∷ rest) s =
@@ -196,7 +196,7 @@ row_waits :
 row_waits rows w idle = ap (λ (l : WarpRow). is_waiting l.phase) (sym (warp_row_row rows w)) ∙ idle
 
 room_for_one :
-    (rows : List Row) (q : List Request) (w : ℕ) → IsSound rows q → w < length rows
+    (rows : List Row) (q : List Request) (w : ℕ) → QueueFitsRows rows q → w < length rows
     → waits_in rows w ≡ false
     → length q < length rows
 room_for_one rows q w s l e =
@@ -247,7 +247,7 @@ waiting_phase Open e = refl
 waiting_phase Waiting e = refl
 waiting_phase (Settled outcome) e = refl
 
-highest_busy : (phase : Phase) → is_idle phase ≡ false → highest_in phase ≡ last_stamp
+highest_busy : (phase : Phase) → is_idle phase ≡ false → highest_stamp_in phase ≡ last_stamp
 highest_busy Idle e = cc
 highest_busy Open e = refl
 highest_busy Waiting e = refl
@@ -289,8 +289,8 @@ module _ (t : Warps) where
   busy_on_time w busy =
       let row = get_or t.rows.items w no_row in
       let here = warp_row_row t.rows.items w in
-      let late : (warp_row t w).stamp ≤ highest_in (warp_row t w).phase =
-      subst (λ (l : WarpRow). l.stamp ≤ highest_in l.phase) (sym here) row.on_time in
+      let late : (warp_row t w).stamp ≤ highest_stamp_in (warp_row t w).phase =
+      subst (λ (l : WarpRow). l.stamp ≤ highest_stamp_in l.phase) (sym here) row.on_time in
       let most = highest_busy (warp_row t w).phase busy in
       omega arith
 
@@ -315,7 +315,7 @@ module _ (t : Warps) where
   -- The row of a warp without a request may change.
   pub row_set :
       (w : ℕ) (row : Row) → has_request (queue_of t) w ≡ false
-      → (length (set t.rows.items w row) ≤ 32) × IsSound (set t.rows.items w row) (queue_of t)
+      → (length (set t.rows.items w row) ≤ 32) × QueueFitsRows (set t.rows.items w row) (queue_of t)
   row_set w row none =
       let long = length-set t.rows.items w row in
       let count = t.count in (
@@ -327,7 +327,7 @@ module _ (t : Warps) where
   pub IsSound-wait :
       (r : Request) (l : WarpRow) → has_request (queue_of t) r.warp ≡ false → warp_row t r.warp ≡ l
       → is_waiting l.phase ≡ true → has_room l r.access ≡ true
-      → IsSound t.rows.items (queue_of t ++ r ∷ [])
+      → QueueFitsRows t.rows.items (queue_of t ++ r ∷ [])
   IsSound-wait r l none is waits room =
       let here : warp_row_in (get_or t.rows.items r.warp no_row) ≡ l =
       sym (warp_row_row t.rows.items r.warp) ∙ is in

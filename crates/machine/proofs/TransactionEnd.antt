@@ -3,16 +3,17 @@ use Rattle.std.proofs.Common.{◌≡◌, ℕ, List, [], ◌∷◌, length, set, 
 use Rattle.book.specs.Meaning.{Kind}
 use Rattle.rules.specs.Logs.{LogEntry, logged_lines}
 use Rattle.rules.specs.Queue.{Policy}
-use Rattle.rules.specs.State.{WarpRow, Machine, idle_row, warp_row_of}
+use Rattle.rules.specs.State.{WarpRow, MachineState, idle_row, warp_row_of}
 use Rattle.rules.specs.Ending.{without_lines, after_giving_up, after_end, with_lines_released}
 use Rattle.rules.specs.Ending.{after_turns_at_lines}
 use Rattle.rules.specs.declared.state.Request.{Request}
 use Rattle.machine.proofs.ServeSteps.{built, with_rows_and_queue}
 
-module _ {k : Kind} (policy : Policy k) (m : Machine k) (w : ℕ) (row : WarpRow) where
+module _ {k : Kind} (policy : Policy k) (m : MachineState k) (w : ℕ) (row : WarpRow) where
   -- The lines are released, the row is changed, and then the requests are retried.
   pub after_giving_up_is :
-      (mid after : Machine k) (warp_rows : List WarpRow) (queue : List Request) (lines : List ℕ)
+      (mid after : MachineState k) (warp_rows : List WarpRow) (queue : List Request)
+      (lines : List ℕ)
       → mid ≡ with_lines_released m lines → warp_rows ≡ set mid.warp_rows w row → queue ≡ mid.queue
       → after ≡ (after_turns_at_lines policy
       (built mid.lines mid.book warp_rows queue) lines).machine
@@ -23,9 +24,9 @@ module _ {k : Kind} (policy : Policy k) (m : Machine k) (w : ℕ) (row : WarpRow
       (with_rows_and_queue mid (with_lines_released m lines) warp_rows queue (λ ls. set ls w row)
       (λ q. q) e a b)
 
-module _ {k : Kind} (policy : Policy k) (m : Machine k) (w stamp : ℕ) where
+module _ {k : Kind} (policy : Policy k) (m : MachineState k) (w stamp : ℕ) where
   pub after_end_is :
-      (after : Machine k) (log : List LogEntry) (lines : List ℕ)
+      (after : MachineState k) (log : List LogEntry) (lines : List ℕ)
       → log ≡ (warp_row_of m w).log → lines ≡ logged_lines log
       → after ≡ (after_giving_up policy m w (idle_row stamp) lines).machine
       → after ≡ (after_end policy m w stamp).machine

@@ -6,7 +6,8 @@ use Rattle.std.proofs.lemmas.Bool.{cases_lt}
 use Rattle.protocol.specs.declared.answer.Outcome.{Outcome}
 use Rattle.book.specs.Meaning.{Kind, state_after_note, state_after_reserve}
 use Rattle.rules.specs.Queue.{queue_without}
-use Rattle.rules.specs.State.{WarpRow, Machine, idle_row, row_in_phase, row_with_store, is_waiting}
+use Rattle.rules.specs.State.{WarpRow, MachineState, idle_row, row_in_phase, row_with_store}
+use Rattle.rules.specs.State.{is_waiting}
 use Rattle.rules.specs.State.{with_book}
 use Rattle.rules.specs.State.{warp_row_at, warp_row_of}
 use Rattle.rules.specs.Serving.{served_on_free_line}
@@ -17,7 +18,7 @@ use Rattle.rules.specs.declared.state.Phase.TheVariants.{Open}
 use Rattle.rules.specs.declared.state.Request.{Request}
 use Rattle.machine.specs.Phases.{highest_stamp, next_stamp, is_open}
 use Rattle.machine.specs.Warps.{has_room}
-use Rattle.machine.specs.CallParts.{after_serving, with_outcome_set}
+use Rattle.machine.specs.CallParts.{after_serving, with_outcome}
 use Rattle.machine.proofs.ServeSteps.{built, with_rows_and_queue}
 
 module _ (rows : List WarpRow) (w : ℕ) where
@@ -37,7 +38,7 @@ module _ (rows : List WarpRow) (w : ℕ) where
   opened_row : w < length rows → warp_row_at opened w ≡ row_in_phase (warp_row_at rows w) Open
   opened_row low = get_or-set_same rows w (row_in_phase (warp_row_at rows w) Open) (idle_row 0) low
 
-module _ {k : Kind} (m : Machine k) (w : ℕ) where
+module _ {k : Kind} (m : MachineState k) (w : ℕ) where
   pub withdrawal_is :
       (warp_rows : List WarpRow) (queue : List Request)
       → warp_rows ≡ opened m.warp_rows w → queue ≡ queue_without m.queue w
@@ -46,8 +47,8 @@ module _ {k : Kind} (m : Machine k) (w : ℕ) where
   withdrawal_is warp_rows queue a b =
       with_rows_and_queue m m warp_rows queue (λ ls. opened ls w) (λ q. queue_without q w) refl a b
 
-  pub settling_is : (after : Machine k) (outcome : Outcome)
-      → after ≡ with_outcome_set (after_withdrawal m w) w outcome
+  pub settling_is : (after : MachineState k) (outcome : Outcome)
+      → after ≡ with_outcome (after_withdrawal m w) w outcome
       → after ≡ after_settling m w outcome
   unfolding after_settling
   settling_is after outcome e = e
@@ -103,18 +104,18 @@ module _ {k : Kind} (m : Machine k) (w : ℕ) where
       served_outcome-withdrawal (Write value) = refl
 
       pub served_after_withdrawal :
-          (mid after : Machine k) (access : Access) (outcome : Outcome)
+          (mid after : MachineState k) (access : Access) (outcome : Outcome)
           → mid ≡ (served_on_free_line (after_withdrawal m w) w line access).machine
           → outcome ≡ (served_on_free_line (after_withdrawal m w) w line access).outcome
-          → after ≡ with_outcome_set mid w outcome → after ≡ after_serving m w line access
+          → after ≡ with_outcome mid w outcome → after ≡ after_serving m w line access
       unfolding after_settling
       served_after_withdrawal mid after access outcome a b e =
-          e ∙ ap (λ x. with_outcome_set x w outcome) (a ∙ served_machine-withdrawal access)
-          ∙ ap (with_outcome_set (after_withdrawal (served_on_free_line m w line access).machine w)
+          e ∙ ap (λ x. with_outcome x w outcome) (a ∙ served_machine-withdrawal access)
+          ∙ ap (with_outcome (after_withdrawal (served_on_free_line m w line access).machine w)
           w) (b ∙ served_outcome-withdrawal access)
 
 -- A served request leaves its warp open, and has no next stamp.
-module _ {k : Kind} (m : Machine k) (w line : ℕ) where
+module _ {k : Kind} (m : MachineState k) (w line : ℕ) where
   pub served_open : (access : Access) → is_open (warp_row_of m w).phase ≡ true
       → is_open (warp_row_of (served_on_free_line m w line access).machine w).phase ≡ true
   unfolding served_on_free_line

@@ -2,7 +2,7 @@
 use Rattle.std.specs.Prelude.{ℕ, List}
 use Rattle.memory.specs.Lines.{Lines}
 use Rattle.book.specs.Meaning.{Kind}
-use Rattle.rules.specs.State.{Machine as State}
+use Rattle.rules.specs.State.{MachineState as State}
 use Rattle.rules.specs.Queue.{Policy, product_policy}
 use Rattle.machine.specs.Warps.{warp_rows, queue_of}
 use Rattle.machine.specs.declared.warps.Warps.{Warps}

@@ -11,11 +11,11 @@ abbrev pub highest_stamp : ℕ
 highest_stamp = 2 ^ 32
 
 -- The highest stamp in a phase: no transaction begins past the end of the clock.
-abbrev pub highest_in : Phase → ℕ
-highest_in Idle = highest_stamp
-highest_in Open = last_stamp
-highest_in Waiting = last_stamp
-highest_in (Settled outcome) = last_stamp
+abbrev pub highest_stamp_in : Phase → ℕ
+highest_stamp_in Idle = highest_stamp
+highest_stamp_in Open = last_stamp
+highest_stamp_in Waiting = last_stamp
+highest_stamp_in (Settled outcome) = last_stamp
 
 -- The stamp at which a warp restarts after an outcome; 0 if its transaction goes on.
 abbrev pub next_stamp : Outcome → ℕ
@@ -24,11 +24,11 @@ next_stamp Stored = 0
 next_stamp (Gone cause next) = next
 
 -- The same for the outcome that a phase holds; 0 if it holds none.
-abbrev pub next_in : Phase → ℕ
-next_in Idle = 0
-next_in Open = 0
-next_in Waiting = 0
-next_in (Settled outcome) = next_stamp outcome
+abbrev pub next_stamp_in : Phase → ℕ
+next_stamp_in Idle = 0
+next_stamp_in Open = 0
+next_stamp_in Waiting = 0
+next_stamp_in (Settled outcome) = next_stamp outcome
 
 -- The warp has a transaction and may go on.
 abbrev pub is_open : Phase → Bool

@@ -23,8 +23,8 @@ abbrev pub answers_in : List Event → List (Result Answer Fault)
 answers_in events = map (λ (e : Event). e.answer) events
 
 -- The answers stand in the first places; the rest keep what they had.
-abbrev pub places_after : List Event → List (Result Answer Fault) → List (Result Answer Fault)
-places_after events places = answers_in events ++ drop (length events) places
+abbrev pub answers_after : List Event → List (Result Answer Fault) → List (Result Answer Fault)
+answers_after events places = answers_in events ++ drop (length events) places
 
 -- The laws, of the run.
 abbrev pub AccountsOf : {k : Kind} → Lines → Run k → Type 0

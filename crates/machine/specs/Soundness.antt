@@ -17,11 +17,11 @@ abbrev pub is_fitting : Row → Access → Bool
 is_fitting row Read = is_waiting row.phase
 is_fitting row (Write value) = is_waiting row.phase && nat_lt row.len log_limit
 
-abbrev pub is_sound : List Row → List Request → Bool
-is_sound rows [] = true
-is_sound rows (r ∷ rest) =
+abbrev pub fits_rows : List Row → List Request → Bool
+fits_rows rows [] = true
+fits_rows rows (r ∷ rest) =
     is_fitting (slice_index_or rows r.warp no_row) r.access
-    && (not (is_some (request_of rest r.warp)) && is_sound rows rest)
+    && (not (is_some (request_of rest r.warp)) && fits_rows rows rest)
 
-abbrev pub IsSound : List Row → List Request → Type 0
-IsSound rows queue = is_sound rows queue ≡ true
+abbrev pub QueueFitsRows : List Row → List Request → Type 0
+QueueFitsRows rows queue = fits_rows rows queue ≡ true

@@ -53,7 +53,7 @@ impl<M: Memory, B: Book> Machine<M, B> {
             (state M.at B.kind B.model self.old) warp stamp).machine }
         ensures memory { self.new.memory ≡ self.old.memory }
     {
-        if self.warps.stored(warp) == 0 {
+        if self.warps.stored_count(warp) == 0 {
             self.warps.make_idle(warp, stamp);
             return;
         }

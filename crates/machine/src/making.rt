@@ -6,7 +6,7 @@ ghost use Rattle.rules.specs.Making.{new_machine, making_fault};
 ghost use Rattle.rules.specs.Queue.{product_policy};
 ghost use Rattle.machine.specs.Meaning.{state, policy_of, loan};
 ghost use Rattle.machine.specs.CallParts.{as_result};
-ghost use Rattle.machine.specs.Making.{count_fault, stamp_fault};
+ghost use Rattle.machine.specs.Making.{count_result, stamp_result};
 
 use crate::machine::Machine;
 use crate::warps::Warps;
@@ -24,7 +24,7 @@ fn first_late(stamps: &[u32]) -> Option<u32>
 
 /// Refuses no warps, and too many.
 fn check_count(count: usize) -> Result<(), Fault>
-    ensures { result ≡ count_fault count }
+    ensures { result ≡ count_result count }
 {
     if count == 0 || count > WARPS as usize {
         return Err(Fault::in_call(Refusal::BadSize, count as u64));
@@ -35,7 +35,7 @@ fn check_count(count: usize) -> Result<(), Fault>
 /// Refuses a stamp past the end of the clock, and a book that is not new.
 #[tactic(auto, using(crate::proofs::LateStamps::find_late_is_first_late))]
 fn check_stamps(stamps: &[u32], latest: u32) -> Result<(), Fault>
-    ensures { result ≡ stamp_fault stamps.now latest }
+    ensures { result ≡ stamp_result stamps.now latest }
 {
     if let Some(stamp) = first_late(stamps) {
         return Err(Fault::in_call(Refusal::BadStamp, u64::from(stamp)));

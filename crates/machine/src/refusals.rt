@@ -100,7 +100,7 @@ impl<M: Memory, B: Book> Machine<M, B> {
     fn check_room(&self, warp: u32) -> Result<(), Fault>
         ensures { result ≡ as_result (room_fault (warp_row self.now.warps warp)) }
     {
-        let stored = self.warps.stored(warp);
+        let stored = self.warps.stored_count(warp);
         if stored >= STORES {
             return Err(Fault::in_call(Refusal::LogFull, stored as u64));
         }

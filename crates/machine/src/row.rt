@@ -2,7 +2,7 @@
 ghost use Rattle.std.specs.Prelude.{◌≡◌, ◌≤◌, [], length};
 ghost use Rattle.protocol.specs.Limits.{log_limit};
 ghost use Rattle.rules.specs.State.{idle_row, row_in_phase};
-ghost use Rattle.machine.specs.Phases.{highest_stamp, highest_in, next_in};
+ghost use Rattle.machine.specs.Phases.{highest_stamp, highest_stamp_in, next_stamp_in};
 
 use crate::log::{Log, Store};
 use rules::Phase;
@@ -17,8 +17,8 @@ pub struct Row {
     stores: [Store; 32],
     ghost size: { length stores ≡ 32 },
     ghost room: { len ≤ log_limit },
-    ghost on_time: { stamp ≤ highest_in phase },
-    ghost next_on_time: { next_in phase ≤ highest_stamp },
+    ghost on_time: { stamp ≤ highest_stamp_in phase },
+    ghost next_on_time: { next_stamp_in phase ≤ highest_stamp },
 }
 
 // By hand, since a derived one is refused beside a ghost field.
@@ -66,8 +66,8 @@ impl Row {
 
     /// Sets what the warp is doing.
     pub(crate) fn set_phase(&mut self, phase: Phase)
-        requires stamp { (warp_row_in self.old).stamp ≤ highest_in phase }
-        requires next { next_in phase ≤ highest_stamp }
+        requires stamp { (warp_row_in self.old).stamp ≤ highest_stamp_in phase }
+        requires next { next_stamp_in phase ≤ highest_stamp }
         ensures { warp_row_in self.new ≡ row_in_phase (warp_row_in self.old) phase }
     {
         self.phase = phase;
@@ -75,8 +75,8 @@ impl Row {
 
     /// Sets phase and stamp, and empties the log.
     pub(crate) fn reset(&mut self, phase: Phase, stamp: u64)
-        requires stamp { stamp ≤ highest_in phase }
-        requires next { next_in phase ≤ highest_stamp }
+        requires stamp { stamp ≤ highest_stamp_in phase }
+        requires next { next_stamp_in phase ≤ highest_stamp }
         ensures { warp_row_in self.new ≡ record { phase = phase; stamp = stamp; log = [] } }
     {
         self.phase = phase;

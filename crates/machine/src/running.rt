@@ -4,7 +4,7 @@ ghost use Rattle.rules.specs.Making.{making_fault};
 ghost use Rattle.rules.specs.Runs.{run as run_from};
 ghost use Rattle.machine.specs.Meaning.{state, policy_of, loan};
 ghost use Rattle.machine.specs.CallParts.{as_result};
-ghost use Rattle.machine.specs.Running.{run_of, calls_made, answers_in, places_after};
+ghost use Rattle.machine.specs.Running.{run_of, calls_made, answers_in, answers_after};
 ghost use Rattle.machine.specs.Running.{AccountsOf, ExplainedOf, WaitsOf, TablesOf, FetchesOf};
 
 use crate::machine::Machine;
@@ -28,7 +28,7 @@ impl<M: Memory, B: Book> Machine<M, B> {
             ≡ (run_from (policy_of B.kind self.old)
             (state M.at B.kind B.model self.old) calls.now).machine }
         ensures answers { answers.new
-            ≡ places_after (run_from (policy_of B.kind self.old)
+            ≡ answers_after (run_from (policy_of B.kind self.old)
             (state M.at B.kind B.model self.old) calls.now).events answers.old }
         ensures loan { loan M.lent M.spare self.new ≡ loan M.lent M.spare self.old }
     {
@@ -60,7 +60,7 @@ pub fn run<M: Memory, B: Book>(
         ≡ (run_of B.kind (M.at memory) (B.model book) stamps.now
         (calls_made calls.now answers.old)).machine }
     ensures answers { answers.new
-        ≡ places_after (run_of B.kind (M.at memory) (B.model book) stamps.now
+        ≡ answers_after (run_of B.kind (M.at memory) (B.model book) stamps.now
         (calls_made calls.now answers.old)).events answers.old }
     ensures shape { result.shape ≡ as_result (making_fault B.kind (B.model book) stamps.now) }
     ensures accounts { AccountsOf (M.at memory)

@@ -8,7 +8,7 @@ ghost use Rattle.machine.specs.Phases.{highest_stamp, next_stamp, is_open};
 ghost use Rattle.machine.specs.Warps.{warp_row, has_room};
 ghost use Rattle.machine.specs.Meaning.{state, policy_of};
 ghost use Rattle.machine.specs.CallParts.{machine_after_turn, machine_after_turns};
-ghost use Rattle.machine.specs.CallParts.{after_serving, with_outcome_set};
+ghost use Rattle.machine.specs.CallParts.{after_serving, with_outcome};
 
 use crate::log::Store;
 use crate::machine::Machine;
@@ -90,7 +90,7 @@ impl<M: Memory, B: Book> Machine<M, B> {
         requires open { is_open (warp_row self.old.warps warp).phase ≡ true }
         requires bound { next_stamp outcome ≤ highest_stamp }
         ensures after { state M.at B.kind B.model self.new
-            ≡ with_outcome_set (state M.at B.kind B.model self.old) warp outcome }
+            ≡ with_outcome (state M.at B.kind B.model self.old) warp outcome }
         ensures memory { self.new.memory ≡ self.old.memory }
     {
         self.warps.settle(warp, outcome);
@@ -124,13 +124,13 @@ impl<M: Memory, B: Book> Machine<M, B> {
     }
 
     /// Retries the request of a warp, if it waits for the line.
-    fn try_turn(&mut self, line: u32, warp: u32)
+    fn retry_in_turn(&mut self, line: u32, warp: u32)
         requires { line < line_limit }
         ensures after { state M.at B.kind B.model self.new
             ≡ machine_after_turn line (state M.at B.kind B.model self.old) warp }
         ensures memory { self.new.memory ≡ self.old.memory }
     {
-        let Some(access) = self.warps.pending(warp, line) else {
+        let Some(access) = self.warps.pending_access(warp, line) else {
             return;
         };
         let request = Request { warp, line, access };
@@ -145,7 +145,7 @@ impl<M: Memory, B: Book> Machine<M, B> {
     }
 
     /// Retries the requests that wait for a line, in turn.
-    fn try_turns(&mut self, line: u32)
+    fn retry_all_in_turn(&mut self, line: u32)
         requires { line < line_limit }
         ensures after { state M.at B.kind B.model self.new
             ≡ machine_after_turns (policy_of B.kind self.old)
@@ -154,7 +154,7 @@ impl<M: Memory, B: Book> Machine<M, B> {
     {
         let turns = self.warps.turns(line);
         for warp in turns.as_slice() {
-            self.try_turn(line, *warp);
+            self.retry_in_turn(line, *warp);
         }
     }
 
@@ -167,7 +167,7 @@ impl<M: Memory, B: Book> Machine<M, B> {
         ensures memory { self.new.memory ≡ self.old.memory }
     {
         if self.warps.any_waits(line) {
-            self.try_turns(line);
+            self.retry_all_in_turn(line);
         }
     }
 }

@@ -6,10 +6,10 @@ ghost use Rattle.rules.specs.Queue.{request_of, requests_on, queue_without, is_f
 ghost use Rattle.rules.specs.State.{idle_row, open_row, row_in_phase, row_with_store};
 ghost use Rattle.rules.specs.State.{is_idle, is_waiting};
 ghost use Rattle.rules.specs.declared.state.Phase.TheVariants.{Open, Waiting, Settled};
-ghost use Rattle.machine.specs.Phases.{highest_stamp, highest_in, next_stamp, next_in};
+ghost use Rattle.machine.specs.Phases.{highest_stamp, highest_stamp_in, next_stamp, next_stamp_in};
 ghost use Rattle.machine.specs.Phases.{is_open, is_settled};
 ghost use Rattle.machine.specs.Rows.{warp_row_in};
-ghost use Rattle.machine.specs.Soundness.{IsSound};
+ghost use Rattle.machine.specs.Soundness.{QueueFitsRows};
 
 use crate::log::{Log, Store};
 use crate::queue::{Queue, QueueLimits};
@@ -25,7 +25,7 @@ pub struct Warps {
     pub(crate) rows: ArrayVec<Row, 32>,
     pub(crate) queue: Queue,
     ghost count: { length rows.items ≤ 32 },
-    ghost sound: { IsSound rows.items queue },
+    ghost sound: { QueueFitsRows rows.items queue },
 }
 
 impl Warps {
@@ -64,7 +64,7 @@ impl Warps {
     /// What a warp is doing.
     pub fn phase(&self, warp: u32) -> Phase
         ensures value { result ≡ (warp_row self.now warp).phase }
-        ensures next { next_in result ≤ highest_stamp }
+        ensures next { next_stamp_in result ≤ highest_stamp }
     {
         self.row(warp).map_or(Phase::Idle, |row| row.phase)
     }
@@ -80,7 +80,7 @@ impl Warps {
     }
 
     /// The number of stores that a warp has logged.
-    pub fn stored(&self, warp: u32) -> usize
+    pub fn stored_count(&self, warp: u32) -> usize
         ensures { result ≡ length (warp_row self.now warp).log }
     {
         self.row(warp).map_or(0, |row| row.len)
@@ -123,7 +123,7 @@ impl Warps {
     }
 
     /// What a warp waits to do at a line, if it does.
-    pub fn pending(&self, warp: u32, line: u32) -> Option<Access>
+    pub fn pending_access(&self, warp: u32, line: u32) -> Option<Access>
         ensures value { result ≡ pending_at (warp_rows self.now) (queue_of self.now) warp line }
         ensures room { has_room_for (warp_row self.now warp) result ≡ true }
         ensures on_time { IfSome result (λ _. (warp_row self.now warp).stamp ≤ last_stamp) }
@@ -141,8 +141,8 @@ impl Warps {
     /// Sets a warp's phase and stamp, and empties its log.
     fn reset(&mut self, warp: u32, phase: Phase, stamp: u64)
         requires free { is_waiting (warp_row self.old warp).phase ≡ false }
-        requires stamp { stamp ≤ highest_in phase }
-        requires next { next_in phase ≤ highest_stamp }
+        requires stamp { stamp ≤ highest_stamp_in phase }
+        requires next { next_stamp_in phase ≤ highest_stamp }
         ensures warp_rows { warp_rows self.new ≡ slice_set (warp_rows self.old) warp
             (record { phase = phase; stamp = stamp; log = [] }) }
         ensures queue { queue_of self.new ≡ queue_of self.old }
@@ -178,8 +178,8 @@ impl Warps {
     /// Sets what a warp is doing.
     fn set_phase(&mut self, warp: u32, phase: Phase)
         requires none { is_some (request_of (queue_of self.old) warp) ≡ false }
-        requires stamp { (warp_row self.old warp).stamp ≤ highest_in phase }
-        requires next { next_in phase ≤ highest_stamp }
+        requires stamp { (warp_row self.old warp).stamp ≤ highest_stamp_in phase }
+        requires next { next_stamp_in phase ≤ highest_stamp }
         ensures warp_rows { warp_rows self.new ≡ slice_set (warp_rows self.old) warp
             (row_in_phase (warp_row self.old warp) phase) }
         ensures queue { queue_of self.new ≡ queue_of self.old }

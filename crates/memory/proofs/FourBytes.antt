@@ -5,7 +5,7 @@ use Rattle.std.proofs.Common.{length-set, get_or-set_other, get_or-set_same, dro
 use mathlib.Core.Path.{fun_ext}
 use native.Mathlib.Nat.{div-div-eq-div-mul}
 use Rattle.std.proofs.lemmas.Bool.{eqb-true, eqb-false, eq-eqb, lt-ltb}
-use Rattle.memory.specs.Lines.{byte_lines, little_endian, odd_bytes, lines_with}
+use Rattle.memory.specs.Lines.{byte_lines, little_endian, leftover_bytes, lines_with}
 
 -- Four bytes written from a place on.
 abbrev pub four_set : List ℕ → ℕ → ℕ → ℕ → ℕ → ℕ → List ℕ
@@ -83,7 +83,7 @@ module _ (bytes : List ℕ) (line value : ℕ) (h : line < length bytes / 4) (v 
 -- The bytes at the end that are in no line stay.
 pub odd_bytes_stay :
     (bytes : List ℕ) (line : ℕ) → line < length bytes / 4 → (a b c d : ℕ)
-    → odd_bytes (four_set bytes (4 * line) a b c d) ≡ odd_bytes bytes
+    → leftover_bytes (four_set bytes (4 * line) a b c d) ≡ leftover_bytes bytes
 odd_bytes_stay bytes line h a b c d =
     let l0 : 4 * line < 4 * (length bytes / 4) = omega arith in
     let l1 : 4 * line + 1 < 4 * (length bytes / 4) = omega arith in

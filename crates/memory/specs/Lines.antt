@@ -39,8 +39,8 @@ abbrev pub byte_lines : List ℕ → Lines
 byte_lines bytes n = cond (nat_lt n (length bytes / 4)) (Some (little_endian bytes (4 * n))) None
 
 -- The caller's bytes at the end that are in no line.
-abbrev pub odd_bytes : List ℕ → List ℕ
-odd_bytes bytes = drop (4 * (length bytes / 4)) bytes
+abbrev pub leftover_bytes : List ℕ → List ℕ
+leftover_bytes bytes = drop (4 * (length bytes / 4)) bytes
 
 -- Two memories joined: even line n is line n / 2 of the first, odd line n is line (n - 1) / 2 of
 -- the second.

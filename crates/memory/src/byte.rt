@@ -1,6 +1,6 @@
 //! A memory made of the caller's bytes.
 ghost use Rattle.std.specs.Prelude.{[], ◌∷◌};
-ghost use Rattle.memory.specs.Lines.{byte_lines, odd_bytes};
+ghost use Rattle.memory.specs.Lines.{byte_lines, leftover_bytes};
 
 use crate::memory::{Memory, no_such_line};
 use protocol::Fault;
@@ -17,7 +17,7 @@ impl<'a> Memory for ByteMemory<'a> {
 
     ghost lent = { λ m. m.bytes.ghost_name ∷ [] };
 
-    ghost spare = { λ m. odd_bytes m.bytes.now };
+    ghost spare = { λ m. leftover_bytes m.bytes.now };
 
     fn read(&self, line: u32) -> Result<u32, Fault> {
         let first = 4 * line as usize;

@@ -26,9 +26,9 @@ pub record FirstDiffers (ours theirs : List (List ℕ)) (row : ℕ)
 
 -- The comparison is right: a match has the same bytes in both and the number of their rows;
 -- otherwise it names the first row that differs.
-abbrev pub Compared : List ℕ → List ℕ → Comparison → Type 0
-Compared ours theirs (Match rows) = (ours ≡ theirs) × (rows ≡ length (rows_of ours))
-Compared ours theirs (Differs row our_row their_row) =
+abbrev pub IsRightComparison : List ℕ → List ℕ → Comparison → Type 0
+IsRightComparison ours theirs (Match rows) = (ours ≡ theirs) × (rows ≡ length (rows_of ours))
+IsRightComparison ours theirs (Differs row our_row their_row) =
     FirstDiffers (rows_of ours) (rows_of theirs) row (option_map (λ r. r.now) our_row)
     (option_map (λ r. r.now) their_row)
 
@@ -38,5 +38,5 @@ IsMatch (Differs row our_row their_row) = ⊥
 
 -- A comparison is a match exactly if the two listings are the same, byte for byte.
 abbrev pub MatchIsExact : Type 0
-MatchIsExact = (ours theirs : List ℕ) (said : Comparison) → Compared ours theirs said
+MatchIsExact = (ours theirs : List ℕ) (said : Comparison) → IsRightComparison ours theirs said
     → IsMatch said ↔ (ours ≡ theirs)

@@ -2,7 +2,7 @@
 ghost use Rattle.std.specs.Prelude.{◌≡◌, ◌<◌, ◌≤◌, [], ◌∷◌, ◌==◌, length, position, IfSome};
 ghost use Rattle.std.specs.Prelude.{MatchOption};
 ghost use Rattle.report.specs.Rows.{rows_of, row_size};
-ghost use Rattle.report.specs.Compared.{Compared, MatchIsExact};
+ghost use Rattle.report.specs.Compared.{IsRightComparison, MatchIsExact};
 
 /// The outcome of a comparison. A row ends with its line feed; the last row may lack one.
 #[derive(Clone, Copy)]
@@ -22,7 +22,7 @@ pub enum Comparison<'a> {
 
 /// Compares their listing with ours.
 pub fn find_difference<'a>(ours: &'a [u8], theirs: &'a [u8]) -> Comparison<'a>
-    ensures rows { Compared ours.now theirs.now result }
+    ensures rows { IsRightComparison ours.now theirs.now result }
     ensures exact { MatchIsExact }
 {
     let mut row = 0;

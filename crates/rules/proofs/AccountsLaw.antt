@@ -5,7 +5,7 @@ use Rattle.std.proofs.Common.{◌≡◌, ℕ, [], Some, None, Option, sym, refl,
 use Rattle.protocol.specs.declared.fault.Fault.{Fault}
 use Rattle.memory.specs.Lines.{Lines}
 use Rattle.book.specs.Meaning.{Kind}
-use Rattle.rules.specs.State.{Machine}
+use Rattle.rules.specs.State.{MachineState}
 use Rattle.rules.specs.Making.{making_fault, first_warp_rows, new_machine}
 use Rattle.rules.specs.Runs.{run}
 use Rattle.rules.specs.Transactions.{transaction_named}
@@ -20,7 +20,7 @@ use Rattle.rules.proofs.Calls.{run_keeps, new_keeps, no_writer, refused_stays}
 
 -- The invariant contains the four facts of SerialOrders.
 serial :
-    (k : Kind) (first : Lines) (E : ℕ → ℕ → Type 0) (m : Machine k) (l : Ledger)
+    (k : Kind) (first : Lines) (E : ℕ → ℕ → Type 0) (m : MachineState k) (l : Ledger)
     → Invariant k first E m l
     → Serial first l.committed m.lines
 serial k first E m l I =
@@ -80,5 +80,5 @@ law_of_accounts k keeps policy lines book good stamps calls =
         subst (λ l. AccountsAgree lines l
         (run policy (new_machine k lines book stamps) calls).machine.lines)
         (sym kept.1)
-        (subst (λ (m : Machine k). AccountsAgree lines new_ledger m.lines) (sym kept.0)
+        (subst (λ (m : MachineState k). AccountsAgree lines new_ledger m.lines) (sym kept.0)
         (accounts_agree lines [] lines (nothing_serial lines)))

@@ -10,7 +10,7 @@ use Rattle.book.specs.Meaning.{Kind, Keeps, is_reserved, can_note, can_reserve, 
 use Rattle.book.specs.Meaning.{can_release, state_after_note, state_after_reserve, state_after_add}
 use Rattle.book.specs.Meaning.{state_after_release}
 use Rattle.book.specs.Time.{Time, earlier}
-use Rattle.rules.specs.Lists.{has}
+use Rattle.rules.specs.Lists.{contains_number}
 use Rattle.rules.proofs.History.{mark_rises, Grown, Reserved}
 
 earlier_same : (t : Time) → earlier t t ≡ false
@@ -139,11 +139,11 @@ module _ (k : Kind) (keeps : Keeps k) where
     pub stamps : (line : ℕ) → line < line_limit → k.write_stamp s line ≤ k.write_stamp s' line
     pub marks : (line : ℕ) → line < line_limit
         → earlier (k.read_mark s' line) (k.read_mark s line) ≡ false
-    pub released_ones : (line : ℕ) → line < line_limit → has line lines ≡ true
+    pub released_ones : (line : ℕ) → line < line_limit → contains_number line lines ≡ true
         → k.owner s' line ≡ None
-    pub others : (line : ℕ) → line < line_limit → has line lines ≡ false
+    pub others : (line : ℕ) → line < line_limit → contains_number line lines ≡ false
         → k.owner s' line ≡ k.owner s line
-    pub counts : (line : ℕ) → line < line_limit → has line lines ≡ false
+    pub counts : (line : ℕ) → line < line_limit → contains_number line lines ≡ false
         → k.stores s' line ≡ k.stores s line
     pub still_none : (line : ℕ) → line < line_limit → k.owner s line ≡ None → k.owner s' line ≡ None
 
@@ -234,11 +234,11 @@ module _ (k : Kind) (keeps : Keeps k) where
         released_ones = λ at l h. freed at l one rest (eqb line at) refl h;
         others =
             λ at l h.
-            let p = or_parts (eqb line at) (has at lines) h in
+            let p = or_parts (eqb line at) (contains_number at lines) h in
             rest.others at l p.1 ∙ one.others at l (ap (λ b. b || false) p.0);
         counts =
             λ at l h.
-            let p = or_parts (eqb line at) (has at lines) h in
+            let p = or_parts (eqb line at) (contains_number at lines) h in
             rest.counts at l p.1 ∙ one.counts at l (ap (λ b. b || false) p.0);
         still_none = λ at l h. rest.still_none at l (one.still_none at l h);
       }
@@ -247,7 +247,7 @@ module _ (k : Kind) (keeps : Keeps k) where
           (at : ℕ) → at < line_limit → Freed s (state_after_release k s line) (line ∷ [])
           → Freed (state_after_release k s line)
           (fold (state_after_release k) (state_after_release k s line) lines) lines
-          → (b : Bool) → eqb line at ≡ b → (b || has at lines) ≡ true
+          → (b : Bool) → eqb line at ≡ b → (b || contains_number at lines) ≡ true
           → k.owner (fold (state_after_release k) (state_after_release k s line) lines) at ≡ None
       freed at l one rest true e h =
           rest.still_none at l (one.released_ones at l (ap (λ b. b || false) e))

@@ -26,8 +26,8 @@ use Rattle.rules.specs.declared.state.Access.TheVariants.{Read, Write}
 use Rattle.rules.specs.declared.state.Phase.{Phase}
 use Rattle.rules.specs.declared.state.Phase.TheVariants.{Idle, Open, Waiting, Settled}
 use Rattle.rules.specs.declared.state.Request.{Request}
-use Rattle.rules.specs.Lists.{has}
-use Rattle.rules.specs.State.{Machine, idle_row, is_idle, is_waiting, warp_row_of, time_of}
+use Rattle.rules.specs.Lists.{contains_number}
+use Rattle.rules.specs.State.{MachineState, idle_row, is_idle, is_waiting, warp_row_of, time_of}
 use Rattle.rules.specs.declared.verdict.Verdict.{Verdict}
 use Rattle.rules.specs.declared.verdict.Verdict.TheVariants.{OwnLine, Gone as VerdictGone, MustWait}
 use Rattle.rules.specs.declared.verdict.Verdict.TheVariants.{GoOn}
@@ -108,13 +108,13 @@ op_of Read line = Load line
 op_of (Write value) line = Store line value
 
 module _ (k : Kind) (first : Lines) (keeps : Keeps k) (policy : Policy k) (E₀ : Type 0)
-    (covers : (m : Machine k) (w : ℕ) (r : Request) → request_of m.queue w ≡ Some r
-    → E₀ ⊎ (has w (policy.turns m r.line) ≡ true))
+    (covers : (m : MachineState k) (w : ℕ) (r : Request) → request_of m.queue w ≡ Some r
+    → E₀ ⊎ (contains_number w (policy.turns m r.line) ≡ true))
   where
     abbrev E : ℕ → ℕ → Type 0
     E v n = E₀
 
-    module _ (m : Machine k) (l : Ledger) (I : Invariant k first E m l) (w : ℕ) where
+    module _ (m : MachineState k) (l : Ledger) (I : Invariant k first E m l) (w : ℕ) where
       -- What a call leaves, and the ledger after it.
       abbrev Kept : Op → Step k → Type 0
       Kept op s =
@@ -231,7 +231,7 @@ module _ (k : Kind) (first : Lines) (keeps : Keeps k) (policy : Policy k) (E₀ 
 
     -- A call, refused or not.
     pub step_keeps :
-        (m : Machine k) (l : Ledger) → Invariant k first E m l → (call : Call)
+        (m : MachineState k) (l : Ledger) → Invariant k first E m l → (call : Call)
         → Invariant k first E (step policy m call).machine
         (ledger_after_event l (event_of policy m call))
     unfolding ledger_after_event
@@ -348,7 +348,7 @@ new_keeps k keeps E₀ lines s good stamps e =
 
 -- A refused call changes neither the machine nor the ledger.
 pub refusal_changes_nothing :
-    (k : Kind) (policy : Policy k) (m : Machine k) (l : Ledger) (call : Call) (f : Fault)
+    (k : Kind) (policy : Policy k) (m : MachineState k) (l : Ledger) (call : Call) (f : Fault)
     → fault_of m call ≡ Some f
     → ((step policy m call).machine ≡ m) × (ledger_after_event l (event_of policy m call) ≡ l)
 unfolding ledger_after_event
@@ -365,7 +365,7 @@ refusal_changes_nothing k policy m l call f e = (
 
 -- A machine that was refused when it was made has no warps, and no call changes it.
 no_warps_refuse :
-    (k : Kind) (m : Machine k) (call : Call) → m.warp_rows ≡ []
+    (k : Kind) (m : MachineState k) (call : Call) → m.warp_rows ≡ []
     → (f : Fault) × (fault_of m call ≡ Some f)
 no_warps_refuse k m call none = (
   fault_in_call NoSuchWarp call.warp,
@@ -390,7 +390,7 @@ refused_stays k policy (call ∷ calls) r none e =
     let kept = refusal_changes_nothing k policy r.machine (ledger_of r.events) call f.0 f.1 in
     let rest =
     refused_stays k policy calls (run_with_call policy r call)
-    (ap (λ (m : Machine k). m.warp_rows) kept.0 ∙ none)
+    (ap (λ (m : MachineState k). m.warp_rows) kept.0 ∙ none)
     (fold_push ledger_after_event new_ledger r.events (event_of policy r.machine call) ∙ kept.1 ∙ e)
     in
     (rest.0 ∙ kept.0, rest.1)

@@ -8,7 +8,7 @@ use Rattle.std.specs.Option.{option_map}
 use Rattle.protocol.specs.Limits.{line_limit}
 use Rattle.memory.specs.Lines.{Lines}
 use Rattle.book.specs.Meaning.{Kind}
-use Rattle.rules.specs.Lists.{has, last_of, numbers_below}
+use Rattle.rules.specs.Lists.{contains_number, last_of, numbers_below}
 use Rattle.rules.specs.Steps.{lines_after_stores}
 use Rattle.rules.specs.Transactions.{Source, own_store, committed_store, initial_memory}
 use Rattle.rules.specs.Transactions.{Transaction, no_transaction, last_own_store, is_written}
@@ -23,18 +23,19 @@ use Rattle.rules.proofs.SerialOrders.{writer_below}
 use Rattle.rules.proofs.History.{Holding, Holder, Core, ReadNow}
 
 kept_same :
-    (t u : ℕ → Bool) (xs : List ℕ) → ((z : ℕ) → has z xs ≡ true → t z ≡ u z)
+    (t u : ℕ → Bool) (xs : List ℕ) → ((z : ℕ) → contains_number z xs ≡ true → t z ≡ u z)
     → filter t xs ≡ filter u xs
 kept_same t u [] e = refl
 kept_same t u (x ∷ xs) e =
     ap (λ b. cond b (x ∷ filter t xs) (filter t xs)) (e x (here x))
     ∙ ap (λ l. cond (u x) (x ∷ l) l) (kept_same t u xs (λ z h. e z (there z (eqb x z) h)))
   where
-    here : (y : ℕ) → has y (y ∷ xs) ≡ true
-    here y = Rattle.std.proofs.lemmas.Bool.or_left (eqb y y) (has y xs)
+    here : (y : ℕ) → contains_number y (y ∷ xs) ≡ true
+    here y = Rattle.std.proofs.lemmas.Bool.or_left (eqb y y) (contains_number y xs)
         (Rattle.std.proofs.lemmas.Bool.eq-eqb y y refl)
 
-    there : (z : ℕ) (b : Bool) → has z xs ≡ true → mathlib.Core.Bool.◌||◌ b (has z xs) ≡ true
+    there : (z : ℕ) (b : Bool) → contains_number z xs ≡ true
+        → mathlib.Core.Bool.◌||◌ b (contains_number z xs) ≡ true
     there z true h = refl
     there z false h = h
 

@@ -9,7 +9,7 @@ use Rattle.book.specs.Exact.{exact}
 use Rattle.rules.specs.declared.state.Access.TheVariants.{Read}
 use Rattle.rules.specs.declared.state.Request.{Request}
 use Rattle.rules.specs.Logs.{log_entry}
-use Rattle.rules.specs.State.{Machine, warp_row_of}
+use Rattle.rules.specs.State.{MachineState, warp_row_of}
 use Rattle.rules.specs.Queue.{request_of}
 use Rattle.rules.specs.Serving.{served_on_free_line}
 use Rattle.rules.specs.Ending.{after_withdrawal, after_settling, after_retry, after_turn_with}
@@ -382,7 +382,7 @@ stamp_kept = onward kept_3 (free free_2)
 -- If it takes the next stamp before that, the warp that waits for it has the smaller stamp, and so
 -- does not wait for a smaller one.
 no_way_on :
-    (m : Machine exact) (l : Ledger) (w v steps : ℕ) (r : Request) → is_waiting_now m w ≡ true
+    (m : MachineState exact) (l : Ledger) (w v steps : ℕ) (r : Request) → is_waiting_now m w ≡ true
     → request_of m.queue w ≡ Some r → IsHolder l r.line v
     → (warp_row_of m w).stamp ≤ (warp_row_of m v).stamp → Leads m l w steps → ⊥
 no_way_on m l w v steps r with_request_queued asks holds above (free e) =

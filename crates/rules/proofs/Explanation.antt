@@ -6,7 +6,7 @@ use Rattle.std.proofs.Common.{arith}
 use Rattle.std.proofs.lemmas.Bool.{both_ways, eqb-true, cases_Bool, lt-ltb, or_cases}
 use Rattle.std.proofs.lemmas.Bool.Decides.{nat_tests}
 use Rattle.book.specs.Meaning.{Kind}
-use Rattle.rules.specs.Lists.{has, numbers_below, occurrences, is_before}
+use Rattle.rules.specs.Lists.{contains_number, numbers_below, occurrences, is_before}
 use Rattle.rules.specs.Making.{new_machine}
 use Rattle.rules.specs.Runs.{run}
 use Rattle.rules.specs.Transactions.{transaction_named, Transaction}
@@ -50,12 +50,14 @@ count_sorted before z (n ∷ ns) =
     count_inserted before n z (sorted before ns)
     ∙ ap (λ c. cond (eqb n z) 1 0 + c) (count_sorted before z ns)
 
-has_sorted : (before : ℕ → ℕ → Bool) (z : ℕ) (ns : List ℕ) → has z (sorted before ns) ≡ has z ns
+has_sorted : (before : ℕ → ℕ → Bool) (z : ℕ) (ns : List ℕ)
+    → contains_number z (sorted before ns) ≡ contains_number z ns
 has_sorted before z ns =
     has_count z (sorted before ns) ∙ ap (ltb 0) (count_sorted before z ns) ∙ sym (has_count z ns)
 
 has_inserted :
-    (before : ℕ → ℕ → Bool) (n z : ℕ) (xs : List ℕ) → has z (inserted before n xs) ≡ has z (n ∷ xs)
+    (before : ℕ → ℕ → Bool) (n z : ℕ) (xs : List ℕ)
+    → contains_number z (inserted before n xs) ≡ contains_number z (n ∷ xs)
 has_inserted before n z xs =
     has_count z (inserted before n xs) ∙ ap (ltb 0) (count_inserted before n z xs)
     ∙ sym (has_count z (n ∷ xs))
@@ -79,7 +81,7 @@ module _ (before : ℕ → ℕ → Bool) (strict : Strict before) where
   -- The list is in order: no later number must come before an earlier one.
   InOrder : List ℕ → Type 0
   InOrder [] = Unit {0}
-  InOrder (x ∷ xs) = ((y : ℕ) → has y xs ≡ true → before y x ≡ false) × InOrder xs
+  InOrder (x ∷ xs) = ((y : ℕ) → contains_number y xs ≡ true → before y x ≡ false) × InOrder xs
 
   inserted_in_order : (n : ℕ) (xs : List ℕ) → InOrder xs → InOrder (inserted before n xs)
   unfolding inserted InOrder
@@ -91,13 +93,13 @@ module _ (before : ℕ → ℕ → Bool) (strict : Strict before) where
           ⊎_elim (λ q. absurd (both_ways (before y x) p (strict.onward y n x q first))) (λ q. q)
           (cases_Bool (before y n))
 
-      later : before n x ≡ true → (y : ℕ) → (eqb x y ≡ true) ⊎ (has y xs ≡ true)
+      later : before n x ≡ true → (y : ℕ) → (eqb x y ≡ true) ⊎ (contains_number y xs ≡ true)
           → before y n ≡ false
       later first y (inl p) =
           not_n first y (ap (λ z. before z x) (sym (eqb-true x y p)) ∙ strict.never_itself x)
       later first y (inr p) = not_n first y (h.0 y p)
 
-      behind : before n x ≡ false → (y : ℕ) → (eqb n y ≡ true) ⊎ (has y xs ≡ true)
+      behind : before n x ≡ false → (y : ℕ) → (eqb n y ≡ true) ⊎ (contains_number y xs ≡ true)
           → before y x ≡ false
       behind last y (inl p) = ap (λ z. before z x) (sym (eqb-true n y p)) ∙ last
       behind last y (inr p) = h.0 y p
@@ -105,9 +107,10 @@ module _ (before : ℕ → ℕ → Bool) (strict : Strict before) where
       step :
           (b : Bool) → before n x ≡ b → InOrder (inserted before n xs)
           → InOrder (cond b (n ∷ x ∷ xs) (x ∷ inserted before n xs))
-      step true e rest = (λ y p. later e y (or_cases (eqb x y) (has y xs) p), h)
+      step true e rest = (λ y p. later e y (or_cases (eqb x y) (contains_number y xs) p), h)
       step false e rest = (
-        λ y p. behind e y (or_cases (eqb n y) (has y xs) (sym (has_inserted before n y xs) ∙ p)),
+        λ y p. behind e y
+            (or_cases (eqb n y) (contains_number y xs) (sym (has_inserted before n y xs) ∙ p)),
         rest,
       )
 
@@ -118,21 +121,24 @@ module _ (before : ℕ → ℕ → Bool) (strict : Strict before) where
 
   -- In a sorted list, of two numbers the one that must come before is before.
   stands :
-      (xs : List ℕ) → InOrder xs → (a b : ℕ) → has a xs ≡ true → has b xs ≡ true → before a b ≡ true
+      (xs : List ℕ) → InOrder xs → (a b : ℕ) → contains_number a xs ≡ true
+      → contains_number b xs ≡ true → before a b ≡ true
       → is_before xs a b ≡ true
   unfolding InOrder
   stands [] h a b p q first = absurd (both_ways false refl p)
   stands (x ∷ xs) h a b p q first =
-      step (eqb x a) refl p (or_cases (eqb x b) (has b xs) q) (λ k r. stands xs h.1 a b k r first)
+      step (eqb x a) refl p (or_cases (eqb x b) (contains_number b xs) q)
+      (λ k r. stands xs h.1 a b k r first)
     where
       same : x ≡ a → x ≡ b → ⊥
       same e f =
           both_ways (before a b) (ap (λ z. before z b) (sym e ∙ f) ∙ strict.never_itself b) first
 
       step :
-          (e : Bool) → eqb x a ≡ e → (e || has a xs) ≡ true → (eqb x b ≡ true) ⊎ (has b xs ≡ true)
-          → (has a xs ≡ true → has b xs ≡ true → is_before xs a b ≡ true)
-          → cond e (has b xs) (is_before xs a b) ≡ true
+          (e : Bool) → eqb x a ≡ e → (e || contains_number a xs) ≡ true
+          → (eqb x b ≡ true) ⊎ (contains_number b xs ≡ true)
+          → (contains_number a xs ≡ true → contains_number b xs ≡ true → is_before xs a b ≡ true)
+          → cond e (contains_number b xs) (is_before xs a b) ≡ true
       step true e k (inl r) rest = absurd (same (eqb-true x a e) (eqb-true x b r))
       step true e k (inr r) rest = r
       step false e k (inl r) rest =
@@ -188,7 +194,7 @@ some_logical_order txs = (
         count_sorted (is_earlier txs) name (numbers_below (length txs))
         ∙ count_numbers_below name (length txs)
 
-    stands_there : (a : ℕ) → a < length txs → has a (in_time txs) ≡ true
+    stands_there : (a : ℕ) → a < length txs → contains_number a (in_time txs) ≡ true
     stands_there a p =
         has_sorted (is_earlier txs) a (numbers_below (length txs))
         ∙ has_numbers_below a (length txs) ∙ lt-ltb a (length txs) p

@@ -25,7 +25,7 @@ use Rattle.rules.specs.declared.state.Access.TheVariants.{Read, Write}
 use Rattle.rules.specs.declared.state.Phase.{Phase}
 use Rattle.rules.specs.declared.state.Phase.TheVariants.{Idle, Open, Waiting, Settled}
 use Rattle.rules.specs.Logs.{log_entry, logged_lines}
-use Rattle.rules.specs.State.{WarpRow, Machine, SettledRequest, idle_row, open_row, is_waiting}
+use Rattle.rules.specs.State.{WarpRow, MachineState, SettledRequest, idle_row, open_row, is_waiting}
 use Rattle.rules.specs.State.{row_in_phase, warp_row_at, warp_row_of}
 use Rattle.rules.specs.State.{time_of, with_warp_row}
 use Rattle.rules.specs.declared.verdict.Verdict.{Verdict}
@@ -270,12 +270,12 @@ module _ (events : List Event) where
 
   module _ {k : Kind} where
     -- This is known of every warp.
-    abbrev Known : Machine k → (ℕ → Option Transaction) → (ℕ → Option SettledRequest) → Type 0
+    abbrev Known : MachineState k → (ℕ → Option Transaction) → (ℕ → Option SettledRequest) → Type 0
     Known m current here = (w : ℕ) → PhaseAgrees w (current w) (here w) (warp_row_of m w).phase
 
     -- One warp changes.
     moves :
-        (m m' : Machine k) (current current' : ℕ → Option Transaction) (here here' : ℕ
+        (m m' : MachineState k) (current current' : ℕ → Option Transaction) (here here' : ℕ
         → Option SettledRequest) (w : ℕ)
         → Known m current here
         → ((v : ℕ) → (v ≡ w → ⊥) → (warp_row_of m' v).phase ≡ (warp_row_of m v).phase)
@@ -292,7 +292,7 @@ module _ (events : List Event) where
 
     -- A request is settled.
     settling_phase :
-        (m : Machine k) (w : ℕ) (outcome : Outcome) (P : Phase → Type 0) → P Idle
+        (m : MachineState k) (w : ℕ) (outcome : Outcome) (P : Phase → Type 0) → P Idle
         → P (Settled outcome)
         → P (warp_row_of (after_settling m w outcome) w).phase
     unfolding after_settling after_withdrawal
@@ -300,7 +300,7 @@ module _ (events : List Event) where
         put_phase (set m.warp_rows w (row_in_phase (warp_row_of m w) Open)) w _ P none here
 
     settling_keeps_phases :
-        (m : Machine k) (w : ℕ) (outcome : Outcome) (v : ℕ) → (v ≡ w → ⊥)
+        (m : MachineState k) (w : ℕ) (outcome : Outcome) (v : ℕ) → (v ≡ w → ⊥)
         → (warp_row_of (after_settling m w outcome) v).phase ≡ (warp_row_of m v).phase
     unfolding after_settling after_withdrawal
     settling_keeps_phases m w outcome v n =
@@ -317,7 +317,8 @@ module _ (events : List Event) where
           (last_settled_request st.settled)
 
       settling_known :
-          (st : AfterRetries k) (m : Machine k) (w line : ℕ) (access : Access) (outcome : Outcome)
+          (st : AfterRetries k) (m : MachineState k) (w line : ℕ) (access : Access)
+          (outcome : Outcome)
           → KnownIn st → ((v : ℕ) → (warp_row_of m v).phase ≡ (warp_row_of st.machine v).phase)
           → Has ((ledger_after_retries st).current w) → Fits access outcome
           → KnownIn
@@ -354,7 +355,7 @@ module _ (events : List Event) where
 
       -- Serving a request changes no phase.
       served_phases :
-          (m : Machine k) (w line : ℕ) (access : Access) (v : ℕ)
+          (m : MachineState k) (w line : ℕ) (access : Access) (v : ℕ)
           → (warp_row_of (served_on_free_line m w line access).machine v).phase ≡
           (warp_row_of m v).phase
       unfolding served_on_free_line
@@ -362,7 +363,7 @@ module _ (events : List Event) where
       served_phases m w line (Write value) v = phase_stays m.warp_rows w _ refl v
 
       served_fits :
-          (m : Machine k) (w line : ℕ) (access : Access)
+          (m : MachineState k) (w line : ℕ) (access : Access)
           → Fits access (served_on_free_line m w line access).outcome
       unfolding served_on_free_line
       served_fits m w line Read = tt
@@ -418,7 +419,7 @@ module _ (events : List Event) where
 
       -- The end of a warp's transaction, with all retries.
       ends_known :
-          (policy : Policy k) (m : Machine k) (w stamp : ℕ) (current : ℕ → Option Transaction)
+          (policy : Policy k) (m : MachineState k) (w stamp : ℕ) (current : ℕ → Option Transaction)
           → Known m current (λ v. None)
           → ((v : ℕ) → (v ≡ w → ⊥) → start.current v ≡ current v)
           → KnownIn (after_end policy m w stamp)
@@ -437,7 +438,7 @@ module _ (events : List Event) where
           (λ v n. refl)
           (put_phase m.warp_rows w (idle_row stamp) (PhaseAgrees w (start.current w) None) tt tt))
 
-    module _ (policy : Policy k) (m : Machine k) (l : Ledger)
+    module _ (policy : Policy k) (m : MachineState k) (l : Ledger)
         (known : Known m l.current (λ v. None)) (w : ℕ) where
       -- What is known after a call.
       abbrev After : Op → Step k → Type 0
@@ -462,7 +463,7 @@ module _ (events : List Event) where
         its = subst (PhaseAgrees w (l.current w) None) may (known w)
 
         joins_known :
-            (m' : Machine k) (action : Transaction → Action)
+            (m' : MachineState k) (action : Transaction → Action)
             → ((v : ℕ) → (warp_row_of m' v).phase ≡ (warp_row_of m v).phase)
             → Known m' (with_joined_action l w action).current (λ v. None)
         joins_known m' action same =
@@ -538,7 +539,7 @@ module _ (events : List Event) where
 
     -- A call, refused or not.
     step_known :
-        (policy : Policy k) (m : Machine k) (l : Ledger) → Known m l.current (λ v. None)
+        (policy : Policy k) (m : MachineState k) (l : Ledger) → Known m l.current (λ v. None)
         → (call : Call)
         → Known (step policy m call).machine (ledger_after_event l (event_of policy m call)).current
         (last_settled_request (event_of policy m call).settled)
@@ -555,7 +556,7 @@ module _ (events : List Event) where
 
     -- The answer to a fetch that is not told to wait.
     fetch_answer :
-        (policy : Policy k) (m : Machine k) (w : ℕ) (outcome : Outcome) (answer : Answer)
+        (policy : Policy k) (m : MachineState k) (w : ℕ) (outcome : Outcome) (answer : Answer)
         → (fetched_step policy m w outcome).answer ≡ Ok answer → answer ≡ answer_of outcome
     unfolding fetched_step
     fetch_answer policy m w (Value value) answer e = cc
@@ -563,7 +564,7 @@ module _ (events : List Event) where
     fetch_answer policy m w (OutcomeGone cause next) answer e = cc
 
     fetch_returns :
-        (policy : Policy k) (m : Machine k) → Known m (ledger_of events).current (λ v. None)
+        (policy : Policy k) (m : MachineState k) → Known m (ledger_of events).current (λ v. None)
         → (w : ℕ)
         → (answer : Answer) → (accepted_step policy m w Fetch).answer ≡ Ok answer → answer ≢ Wait
         → FetchReturns events w answer
@@ -587,7 +588,7 @@ module _ (events : List Event) where
             none s e = cc
 
     call_returns :
-        (policy : Policy k) (m : Machine k) → Known m (ledger_of events).current (λ v. None)
+        (policy : Policy k) (m : MachineState k) → Known m (ledger_of events).current (λ v. None)
         → (call : Call)
         → call.op ≡ Fetch → (answer : Answer) → (step policy m call).answer ≡ Ok answer
         → answer ≢ Wait

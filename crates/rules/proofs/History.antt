@@ -9,7 +9,7 @@ use Rattle.protocol.specs.Limits.{line_limit}
 use Rattle.memory.specs.Lines.{Lines}
 use Rattle.book.specs.Meaning.{Kind}
 use Rattle.book.specs.Time.{Time, earlier}
-use Rattle.rules.specs.Lists.{has, last_of}
+use Rattle.rules.specs.Lists.{contains_number, last_of}
 use Rattle.rules.specs.Transactions.{Source, Transaction, transaction_named, writers}
 use Rattle.rules.specs.Transactions.{committed_source}
 use Rattle.rules.proofs.SerialAccount.{source_value, writer, EachLoad}
@@ -34,7 +34,7 @@ with_hold H w at t h line = cond (eqb h w && eqb line at) (Some t) (H h line)
 
 -- A warp releases some lines.
 abbrev pub without_holds : Holding → ℕ → List ℕ → Holding
-without_holds H w gone h line = cond (eqb h w && has line gone) None (H h line)
+without_holds H w gone h line = cond (eqb h w && contains_number line gone) None (H h line)
 
 module _ (k : Kind) where
   -- The book changes so that no write stamp and no read mark gets smaller, and no owner changes.
@@ -59,12 +59,13 @@ module _ (k : Kind) where
 
   -- The book releases some lines that a warp holds.
   pub record Released (H : Holding) (s s' : k.State) (w : ℕ) (gone : List ℕ) : Type 0 where
-    pub its : (line : ℕ) → has line gone ≡ true → (t : ℕ) × (H w line ≡ Some t)
+    pub its : (line : ℕ) → contains_number line gone ≡ true → (t : ℕ) × (H w line ≡ Some t)
     pub stamps : (line : ℕ) → line < line_limit → k.write_stamp s line ≤ k.write_stamp s' line
     pub marks : (line : ℕ) → line < line_limit
         → earlier (k.read_mark s' line) (k.read_mark s line) ≡ false
-    pub released : (line : ℕ) → line < line_limit → has line gone ≡ true → k.owner s' line ≡ None
-    pub others : (line : ℕ) → line < line_limit → has line gone ≡ false
+    pub released : (line : ℕ) → line < line_limit → contains_number line gone ≡ true
+        → k.owner s' line ≡ None
+    pub others : (line : ℕ) → line < line_limit → contains_number line gone ≡ false
         → k.owner s' line ≡ k.owner s line
 
 module _ (k : Kind) (first : Lines) where
@@ -286,15 +287,15 @@ module _ (k : Kind) (first : Lines) where
     where
       pub still_held :
           (h line t : ℕ) → without_holds H w gone h line ≡ Some t
-          → (h ≡ w → has line gone ≡ true → ⊥) × (H h line ≡ Some t)
-      still_held h line t e = step (eqb h w) refl (has line gone) refl e
+          → (h ≡ w → contains_number line gone ≡ true → ⊥) × (H h line ≡ Some t)
+      still_held h line t e = step (eqb h w) refl (contains_number line gone) refl e
         where
           step :
-              (b : Bool) → eqb h w ≡ b → (c : Bool) → has line gone ≡ c
+              (b : Bool) → eqb h w ≡ b → (c : Bool) → contains_number line gone ≡ c
               → cond (b && c) None (H h line) ≡ Some t
-              → (h ≡ w → has line gone ≡ true → ⊥) × (H h line ≡ Some t)
+              → (h ≡ w → contains_number line gone ≡ true → ⊥) × (H h line ≡ Some t)
           step true p true q r = let z : ◌≡◌ {A = ℕ} 0 1 = cc in absurd (omega arith)
-          step true p false q r = (λ x y. both_ways (has line gone) q y, r)
+          step true p false q r = (λ x y. both_ways (contains_number line gone) q y, r)
           step false p c q r = (λ x y. eqb-false h w p x, r)
 
       -- No two warps hold the same line.
@@ -320,12 +321,13 @@ module _ (k : Kind) (first : Lines) where
             last = c.last;
             same_lines = c.same_lines;
             holder = holder_now;
-            owner_holds = λ line h l e. owner_now line h l e (has line gone) refl;
+            owner_holds = λ line h l e. owner_now line h l e (contains_number line gone) refl;
           }
         where
           not_gone :
-              (h line t : ℕ) → (h ≡ w → has line gone ≡ true → ⊥) → H h line ≡ Some t → (b : Bool)
-              → has line gone ≡ b → b ≡ false
+              (h line t : ℕ) → (h ≡ w → contains_number line gone ≡ true → ⊥) → H h line ≡ Some t
+              → (b : Bool)
+              → contains_number line gone ≡ b → b ≡ false
           not_gone h line t n p true q =
               let its = g.its line q in
               absurd (n (one_holder c h w line t its.0 p its.1) q)
@@ -341,7 +343,7 @@ module _ (k : Kind) (first : Lines) where
                 line_low = old.line_low;
                 owns =
                     g.others line old.line_low
-                    (not_gone h line t kept.0 kept.1 (has line gone) refl) ∙ old.owns;
+                    (not_gone h line t kept.0 kept.1 (contains_number line gone) refl) ∙ old.owns;
                 passes = let a = old.passes in let b = g.stamps line old.line_low in omega arith;
                 there = old.there;
                 above = old.above;
@@ -353,7 +355,7 @@ module _ (k : Kind) (first : Lines) where
 
           owner_now :
               (line h : ℕ) → line < line_limit → k.owner s' line ≡ Some h → (b : Bool)
-              → has line gone ≡ b
+              → contains_number line gone ≡ b
               → (t : ℕ) × (without_holds H w gone h line ≡ Some t)
           owner_now line h l e true q =
               let r = g.released line l q in

@@ -9,7 +9,7 @@ use Rattle.protocol.specs.Limits.{line_limit, last_stamp}
 use Rattle.memory.specs.Lines.{Lines}
 use Rattle.book.specs.Meaning.{Kind, Keeps}
 use Rattle.rules.specs.declared.state.Request.{Request}
-use Rattle.rules.specs.State.{WarpRow, Machine, is_idle, is_waiting, warp_row_of}
+use Rattle.rules.specs.State.{WarpRow, MachineState, is_idle, is_waiting, warp_row_of}
 use Rattle.rules.specs.Queue.{request_of}
 use Rattle.rules.specs.Transactions.{Action, Transaction, is_written, transaction_stores}
 use Rattle.rules.specs.Ledger.{Ledger, with_action, with_current}
@@ -39,14 +39,14 @@ pub record Blocked (l : Ledger) (line t : ℕ) : Type 0 where
 module _ (k : Kind) (first : Lines) where
   -- A warp that waits: its request, and that its line is held at a smaller stamp. While retries go
   -- on, warps that are still to be retried are exempt (E) from the latter.
-  pub record Waiter (E : ℕ → ℕ → Type 0) (m : Machine k) (l : Ledger) (w : ℕ) : Type 0 where
+  pub record Waiter (E : ℕ → ℕ → Type 0) (m : MachineState k) (l : Ledger) (w : ℕ) : Type 0 where
     pub request : Request
     pub requested : request_of m.queue w ≡ Some request
     pub line_low : request.line < line_limit
     pub there : is_some (first request.line) ≡ true
     pub blocked : E w request.line ⊎ Blocked l request.line (warp_row_of m w).stamp
 
-  pub record Invariant (E : ℕ → ℕ → Type 0) (m : Machine k) (l : Ledger) : Type 0 where
+  pub record Invariant (E : ℕ → ℕ → Type 0) (m : MachineState k) (l : Ledger) : Type 0 where
     pub good : k.Good m.book
     pub history : History k first l m.lines m.book
     pub warp_rows : (w : ℕ) → Matches (warp_row_of m w) (l.current w)
@@ -57,7 +57,7 @@ module _ (k : Kind) (first : Lines) where
 
   -- The exemptions may change, as long as each waiting warp is exempt or blocked.
   pub exempt :
-      (E E' : ℕ → ℕ → Type 0) (m : Machine k) (l : Ledger) → Invariant E m l
+      (E E' : ℕ → ℕ → Type 0) (m : MachineState k) (l : Ledger) → Invariant E m l
       → ((w : ℕ) (r : Request) → is_waiting (warp_row_of m w).phase ≡ true
       → request_of m.queue w ≡ Some r
       → E w r.line → E' w r.line ⊎ Blocked l r.line (warp_row_of m w).stamp)
@@ -84,7 +84,7 @@ module _ (k : Kind) (first : Lines) where
 
   -- One warp's row is replaced, and the other rows stay.
   pub one_row_keeps :
-      (E E' : ℕ → ℕ → Type 0) (m m' : Machine k) (l l' : Ledger) (w : ℕ) → Invariant E m l
+      (E E' : ℕ → ℕ → Type 0) (m m' : MachineState k) (l l' : Ledger) (w : ℕ) → Invariant E m l
       → k.Good m'.book → History k first l' m'.lines m'.book
       → length m'.warp_rows ≡ length m.warp_rows
       → ((v : ℕ) → (v ≡ w → ⊥) → warp_row_of m' v ≡ warp_row_of m v)
@@ -147,7 +147,7 @@ module _ (k : Kind) (first : Lines) where
 
   -- Phases, stamps and queue stay, and held lines stay held.
   pub same_phases_keep :
-      (E : ℕ → ℕ → Type 0) (m m' : Machine k) (l l' : Ledger) → Invariant E m l
+      (E : ℕ → ℕ → Type 0) (m m' : MachineState k) (l l' : Ledger) → Invariant E m l
       → k.Good m'.book → History k first l' m'.lines m'.book
       → length m'.warp_rows ≡ length m.warp_rows → m'.queue ≡ m.queue
       → ((v : ℕ) → (warp_row_of m' v).phase ≡ (warp_row_of m v).phase)
@@ -219,7 +219,8 @@ module _ (k : Kind) (first : Lines) where
       step None p q = let z : ◌≡◌ {A = ℕ} 0 1 = cc in absurd (omega arith)
       step (Some tx) p q = inner tx p (is_written tx.actions line) refl q
 
-  module _ (keeps : Keeps k) (E : ℕ → ℕ → Type 0) (m : Machine k) (l : Ledger) (I : Invariant E m l)
+  module _ (keeps : Keeps k) (E : ℕ → ℕ → Type 0) (m : MachineState k) (l : Ledger)
+      (I : Invariant E m l)
       (w : ℕ) where
     -- A warp with a transaction.
     module _ (tx : Transaction) (mine : l.current w ≡ Some tx) where
@@ -263,7 +264,7 @@ module _ (k : Kind) (first : Lines) where
           with_current l w (option_map (λ t. with_action t (action t)) (l.current w))
 
       pub action_keeps :
-          (m' : Machine k) (action : Transaction → Action) → k.Good m'.book
+          (m' : MachineState k) (action : Transaction → Action) → k.Good m'.book
           → History k first (ledger_with_action action) m'.lines m'.book
           → length m'.warp_rows ≡ length m.warp_rows → m'.queue ≡ m.queue
           → ((v : ℕ) → (warp_row_of m' v).phase ≡ (warp_row_of m v).phase)

@@ -11,7 +11,7 @@ use Rattle.protocol.specs.Limits.{line_limit}
 use Rattle.memory.specs.Lines.{Lines}
 use Rattle.book.specs.Meaning.{Kind}
 use Rattle.book.specs.Time.{earlier}
-use Rattle.rules.specs.Lists.{has, last_of, numbers_below}
+use Rattle.rules.specs.Lists.{contains_number, last_of, numbers_below}
 use Rattle.rules.specs.Logs.{log_entry}
 use Rattle.rules.specs.Steps.{lines_after_stores}
 use Rattle.rules.specs.Transactions.{Source, Action, loaded, stored, load_action, Transaction}
@@ -188,13 +188,13 @@ module _ (k : Kind) (first : Lines) where
 
       -- A warp releases all its lines.
       pub all_lines_released :
-          ((line t : ℕ) → hold l w line ≡ Some t → has line gone ≡ true)
+          ((line t : ℕ) → hold l w line ≡ Some t → contains_number line gone ≡ true)
           → hold (without_current l w) ≡ without_holds (hold l) w gone
       all_lines_released all = fun_ext (λ h. fun_ext (λ line. step h line (eqb h w) refl))
         where
           all_gone : (line : ℕ) (o : Option ℕ) → hold l w line ≡ o
-              → cond (has line gone) None o ≡ None
-          all_gone line None e = same (has line gone)
+              → cond (contains_number line gone) None o ≡ None
+          all_gone line None e = same (contains_number line gone)
             where
               same : (b : Bool) → ◌≡◌ {A = Option ℕ} (cond b None None) None
               same true = refl
@@ -204,16 +204,16 @@ module _ (k : Kind) (first : Lines) where
           step :
               (h line : ℕ) (b : Bool) → eqb h w ≡ b
               → hold_in (cond b None (l.current h)) line
-              ≡ cond (b && has line gone) None (hold_in (l.current h) line)
+              ≡ cond (b && contains_number line gone) None (hold_in (l.current h) line)
           step h line true p =
               sym
-              (ap (λ v. cond (has line gone) None (hold l v line)) (eqb-true h w p)
+              (ap (λ v. cond (contains_number line gone) None (hold l v line)) (eqb-true h w p)
               ∙ all_gone line (hold l w line) refl)
           step h line false p = refl
 
       -- A transaction ends without a commit.
       pub ended :
-          ((line t : ℕ) → hold l w line ≡ Some t → has line gone ≡ true)
+          ((line t : ℕ) → hold l w line ≡ Some t → contains_number line gone ≡ true)
           → History (without_current l w) lines s'
       ended all =
           lines_released None (all_lines_released all)
@@ -313,7 +313,7 @@ module _ (k : Kind) (first : Lines) where
               (j : ℕ) → writer first l.committed line j ≡ true
               → commits_seen (committed_source (last_of (writers l.committed line))) ≤ j → ⊥
           late j wj above =
-              let inside : has j (writers l.committed line) ≡ true =
+              let inside : contains_number j (writers l.committed line) ≡ true =
               filter_has (writer first l.committed line) j (numbers_below (length l.committed))
               (has_numbers_below j (length l.committed)
               ∙ lt-ltb j (length l.committed) (writer_below first l.committed line j wj))
@@ -436,7 +436,7 @@ module _ (k : Kind) (first : Lines) where
       -- A transaction commits: it releases its lines, and its stores are in memory.
       pub committed :
           (gone : List ℕ) (s' : k.State) → Released k (hold l) s s' w gone
-          → ((line t : ℕ) → hold l w line ≡ Some t → has line gone ≡ true)
+          → ((line t : ℕ) → hold l w line ≡ Some t → contains_number line gone ≡ true)
           → History (with_committed l w) (lines_after_stores lines (transaction_stores tx.actions))
           s'
       committed gone s' g all =

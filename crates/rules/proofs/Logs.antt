@@ -8,9 +8,9 @@ use Rattle.std.proofs.lemmas.Bool.{both_ways, eqb-true, ne_eqb, cases_Bool, case
 use Rattle.book.specs.Meaning.{Kind}
 use Rattle.rules.specs.declared.state.Phase.TheVariants.{Idle, Open, Waiting, Settled}
 use Rattle.rules.specs.declared.state.Request.{Request}
-use Rattle.rules.specs.Lists.{has, push_new}
+use Rattle.rules.specs.Lists.{contains_number, push_new}
 use Rattle.rules.specs.Logs.{LogEntry, last_stored, entry_lines, logged_lines}
-use Rattle.rules.specs.State.{WarpRow, Machine, idle_row, is_idle, is_waiting, warp_row_of}
+use Rattle.rules.specs.State.{WarpRow, MachineState, idle_row, is_idle, is_waiting, warp_row_of}
 use Rattle.rules.specs.State.{with_warp_row}
 use Rattle.rules.specs.Queue.{request_of, queue_without}
 use Rattle.rules.specs.Transactions.{Action, loaded, stored, last_own_store, is_written}
@@ -29,55 +29,62 @@ logged_own (stored s ∷ actions) line =
 
 -- The logged lines are those that the transaction stored to.
 has_push_new : (z : ℕ) (commits_seen : List ℕ) (x : ℕ)
-    → has z (push_new commits_seen x) ≡ (has z commits_seen || eqb x z)
-has_push_new z commits_seen x = step (has x commits_seen) refl
+    → contains_number z (push_new commits_seen x) ≡ (contains_number z commits_seen || eqb x z)
+has_push_new z commits_seen x = step (contains_number x commits_seen) refl
   where
     or_false : (b : Bool) → (b || false) ≡ b
     or_false true = refl
     or_false false = refl
 
-    step : (b : Bool) → has x commits_seen ≡ b
-        → has z (cond b commits_seen (commits_seen ++ x ∷ [])) ≡ (has z commits_seen || eqb x z)
+    step : (b : Bool) → contains_number x commits_seen ≡ b
+        → contains_number z (cond b commits_seen (commits_seen ++ x ∷ [])) ≡
+        (contains_number z commits_seen || eqb x z)
     step false e = has_append z commits_seen (x ∷ [])
-        ∙ ap (λ b. has z commits_seen || b) (or_false (eqb x z))
+        ∙ ap (λ b. contains_number z commits_seen || b) (or_false (eqb x z))
     step true e = ⊎_elim same other (cases_Bool (eqb x z))
       where
-        same : eqb x z ≡ true → has z commits_seen ≡ (has z commits_seen || eqb x z)
+        same : eqb x z ≡ true
+            → contains_number z commits_seen ≡ (contains_number z commits_seen || eqb x z)
         same p =
-            let h : has z commits_seen ≡ true =
-            subst (λ y. has y commits_seen ≡ true) (eqb-true x z p) e in
-            h ∙ sym (or_left (has z commits_seen) (eqb x z) h)
+            let h : contains_number z commits_seen ≡ true =
+            subst (λ y. contains_number y commits_seen ≡ true) (eqb-true x z p) e in
+            h ∙ sym (or_left (contains_number z commits_seen) (eqb x z) h)
 
-        other : eqb x z ≡ false → has z commits_seen ≡ (has z commits_seen || eqb x z)
-        other p = sym (ap (λ b. has z commits_seen || b) p ∙ or_false (has z commits_seen))
+        other : eqb x z ≡ false
+            → contains_number z commits_seen ≡ (contains_number z commits_seen || eqb x z)
+        other p = sym
+            (ap (λ b. contains_number z commits_seen || b) p
+            ∙ or_false (contains_number z commits_seen))
 
 has_distinct_from : (z : ℕ) (xs commits_seen : List ℕ)
-    → has z (fold push_new commits_seen xs) ≡ (has z commits_seen || has z xs)
-has_distinct_from z [] commits_seen = flat (has z commits_seen)
+    → contains_number z (fold push_new commits_seen xs) ≡
+    (contains_number z commits_seen || contains_number z xs)
+has_distinct_from z [] commits_seen = flat (contains_number z commits_seen)
   where
     flat : (b : Bool) → b ≡ (b || false)
     flat true = refl
     flat false = refl
 has_distinct_from z (x ∷ xs) commits_seen =
     has_distinct_from z xs (push_new commits_seen x)
-    ∙ ap (λ b. b || has z xs) (has_push_new z commits_seen x)
-    ∙ regroup (has z commits_seen) (eqb x z) (has z xs)
+    ∙ ap (λ b. b || contains_number z xs) (has_push_new z commits_seen x)
+    ∙ regroup (contains_number z commits_seen) (eqb x z) (contains_number z xs)
   where
     regroup : (a b c : Bool) → ((a || b) || c) ≡ (a || (b || c))
     regroup true b c = refl
     regroup false b c = refl
 
 pub has_logged : (actions : List Action) (line : ℕ)
-    → has line (logged_lines (transaction_stores actions)) ≡ is_written actions line
+    → contains_number line (logged_lines (transaction_stores actions)) ≡ is_written actions line
 has_logged actions line =
     has_distinct_from line (entry_lines (transaction_stores actions)) [] ∙ in_log actions
   where
     in_log : (ds : List Action)
-        → has line (entry_lines (transaction_stores ds)) ≡ is_written ds line
+        → contains_number line (entry_lines (transaction_stores ds)) ≡ is_written ds line
     in_log [] = refl
     in_log (loaded d ∷ ds) = in_log ds
     in_log (stored s ∷ ds) =
-        ap (has line) (map-append (λ (e : LogEntry). e.line) (transaction_stores ds) (s ∷ []))
+        ap (contains_number line)
+        (map-append (λ (e : LogEntry). e.line) (transaction_stores ds) (s ∷ []))
         ∙ has_append line (entry_lines (transaction_stores ds)) (s.line ∷ [])
         ∙ ap (λ b. b || (eqb s.line line || false)) (in_log ds)
         ∙ step (eqb s.line line) (last_own_store ds line)
@@ -89,7 +96,7 @@ has_logged actions line =
         step false None = refl
         step false (Some u) = refl
 
-module _ {k : Kind} (m : Machine k) (w : ℕ) where
+module _ {k : Kind} (m : MachineState k) (w : ℕ) where
   -- A row that is replaced is the new one, and the others do not change.
   pub warp_row_put :
       (warp_row : WarpRow) → w < length m.warp_rows

@@ -15,9 +15,9 @@ use Rattle.rules.specs.declared.state.Access.{Access}
 use Rattle.rules.specs.declared.state.Access.TheVariants.{Read, Write}
 use Rattle.rules.specs.declared.state.Phase.{Phase}
 use Rattle.rules.specs.declared.state.Phase.TheVariants.{Idle, Open, Waiting, Settled}
-use Rattle.rules.specs.Lists.{has}
+use Rattle.rules.specs.Lists.{contains_number}
 use Rattle.rules.specs.Logs.{log_entry, last_stored, logged_lines}
-use Rattle.rules.specs.State.{WarpRow, Machine, idle_row, open_row, is_idle, is_waiting}
+use Rattle.rules.specs.State.{WarpRow, MachineState, idle_row, open_row, is_idle, is_waiting}
 use Rattle.rules.specs.State.{row_in_phase, row_with_store, warp_row_of, time_of}
 use Rattle.rules.specs.State.{with_lines, with_book, with_warp_row}
 use Rattle.rules.specs.Access.{line_state}
@@ -65,7 +65,8 @@ some_of None e = absurd (both_ways false refl e)
 some_of (Some u) e = (u, refl)
 
 module _
-    (k : Kind) (first : Lines) (keeps : Keeps k) (E : ℕ → ℕ → Type 0) (m : Machine k) (l : Ledger)
+    (k : Kind) (first : Lines) (keeps : Keeps k) (E : ℕ → ℕ → Type 0) (m : MachineState k)
+    (l : Ledger)
     (I : Invariant k first E m l) (w : ℕ)
   where
     module _ (tx : Transaction) (mine : l.current w ≡ Some tx) where
@@ -405,12 +406,13 @@ module _
       freed_book gone = fold (state_after_release k) m.book gone
 
       -- Some lines that the transaction stored to are released, and its row is replaced.
-      module _ (gone : List ℕ) (its : (line : ℕ) → has line gone ≡ true
+      module _ (gone : List ℕ) (its : (line : ℕ) → contains_number line gone ≡ true
           → is_written tx.actions line ≡ true) where
         freed : Freed k keeps m.book (freed_book gone) gone
         freed = after_release k keeps m.book I.good gone
 
-        was_held : (line : ℕ) → has line gone ≡ true → (t : ℕ) × (hold l w line ≡ Some t)
+        was_held : (line : ℕ) → contains_number line gone ≡ true
+            → (t : ℕ) × (hold l w line ≡ Some t)
         was_held line h =
             (tx.stamp, ap (λ o. hold_in o line) mine ∙ hold_writes tx line (its line h))
 
@@ -438,16 +440,16 @@ module _
         module _ (l' : Ledger) (holds : hold l' ≡ without_holds (hold l) w gone) where
           still_blocked :
               (v line t : ℕ) → E v line ⊎ Blocked l line t
-              → (E v line ⊎ (has line gone ≡ true)) ⊎ Blocked l' line t
+              → (E v line ⊎ (contains_number line gone ≡ true)) ⊎ Blocked l' line t
           still_blocked v line t (inl e) = inl (inl e)
-          still_blocked v line t (inr b) = step (has line gone) refl
+          still_blocked v line t (inr b) = step (contains_number line gone) refl
             where
               flat : (c : Bool) → (c && false) ≡ false
               flat true = refl
               flat false = refl
 
-              step : (c : Bool) → has line gone ≡ c
-                  → (E v line ⊎ (has line gone ≡ true)) ⊎ Blocked l' line t
+              step : (c : Bool) → contains_number line gone ≡ c
+                  → (E v line ⊎ (contains_number line gone ≡ true)) ⊎ Blocked l' line t
               step true q = inl (inr q)
               step false q =
                   inr
@@ -467,11 +469,11 @@ module _
               → is_waiting warp_row.phase ≡ false → Matches warp_row (l'.current w)
               → ((v : ℕ) → (v ≡ w → ⊥) → l'.current v ≡ l.current v)
               → History k first l' ls (freed_book gone) → CountsAgree k l' (freed_book gone)
-              → Invariant k first (λ v line. E v line ⊎ (has line gone ≡ true))
+              → Invariant k first (λ v line. E v line ⊎ (contains_number line gone ≡ true))
               (without_lines (with_lines m ls) w warp_row gone) l'
           unfolding without_lines
           release_keeps ls warp_row calm still match others history counts =
-              one_row_keeps k first E (λ v line. E v line ⊎ (has line gone ≡ true)) m
+              one_row_keeps k first E (λ v line. E v line ⊎ (contains_number line gone ≡ true)) m
               (without_lines (with_lines m ls) w warp_row gone) l l' w I freed.good history
               (length-set m.warp_rows w warp_row) (λ v n. warp_row_kept m w warp_row v n) others
               (λ v n. refl)
@@ -491,14 +493,15 @@ module _
       abbrev pub its_lines : List ℕ
       its_lines = logged_lines (warp_row_of m w).log
 
-      logged_writes : (line : ℕ) → has line its_lines ≡ is_written tx.actions line
-      logged_writes line = ap (λ log. has line (logged_lines log)) R.same_log
+      logged_writes : (line : ℕ) → contains_number line its_lines ≡ is_written tx.actions line
+      logged_writes line = ap (λ log. contains_number line (logged_lines log)) R.same_log
           ∙ has_logged tx.actions line
 
-      writes_logged : (line : ℕ) → has line its_lines ≡ true → is_written tx.actions line ≡ true
+      writes_logged : (line : ℕ) → contains_number line its_lines ≡ true
+          → is_written tx.actions line ≡ true
       writes_logged line h = sym (logged_writes line) ∙ h
 
-      all_logged : (line t : ℕ) → hold l w line ≡ Some t → has line its_lines ≡ true
+      all_logged : (line t : ℕ) → hold l w line ≡ Some t → contains_number line its_lines ≡ true
       all_logged line t e =
           let q = holds_line k first l w line t e in
           let again = q.1 in
@@ -520,7 +523,7 @@ module _
             → ((v : ℕ) → (v ≡ w → ⊥) → l'.current v ≡ l.current v) → (ls : Lines)
             → History k first l' ls (freed_book its_lines)
             → CountsAgree k l' (freed_book its_lines)
-            → Invariant k first (λ v line. E v line ⊎ (has line its_lines ≡ true))
+            → Invariant k first (λ v line. E v line ⊎ (contains_number line its_lines ≡ true))
             (without_lines (with_lines m ls) w (idle_row stamp) its_lines) l'
         all_gone l' holds none others ls history counts =
             release_keeps its_lines writes_logged l' holds ls (idle_row stamp) calm refl
@@ -532,7 +535,7 @@ module _
             (λ t e line x. let z : ◌≡◌ {A = ℕ} 0 1 = cc in absurd (omega arith))
 
         pub ends_keep :
-            Invariant k first (λ v line. E v line ⊎ (has line its_lines ≡ true))
+            Invariant k first (λ v line. E v line ⊎ (contains_number line its_lines ≡ true))
             (without_lines m w (idle_row stamp) its_lines)
             (without_current l w)
         ends_keep =
@@ -544,7 +547,7 @@ module _
             no_counts_left
 
         pub commits_keep :
-            Invariant k first (λ v line. E v line ⊎ (has line its_lines ≡ true))
+            Invariant k first (λ v line. E v line ⊎ (contains_number line its_lines ≡ true))
             (without_lines (with_log_written m w) w (idle_row stamp) its_lines) (with_committed l w)
         commits_keep =
             all_gone (with_committed l w) no_holds_left (current_mine k first l w None)
@@ -629,7 +632,8 @@ module _
 
 -- A request is settled: it is withdrawn, and its warp has an outcome to fetch.
 pub settling_keeps :
-    (k : Kind) (first : Lines) (keeps : Keeps k) (E : ℕ → ℕ → Type 0) (m : Machine k) (l : Ledger)
+    (k : Kind) (first : Lines) (keeps : Keeps k) (E : ℕ → ℕ → Type 0) (m : MachineState k)
+    (l : Ledger)
     (I : Invariant k first E m l) (w : ℕ) (tx : Transaction) → l.current w ≡ Some tx
     → (E' : ℕ → ℕ → Type 0)
     (outcome : Outcome) → ((v line : ℕ) → (v ≡ w → ⊥) → E v line → E' v line)

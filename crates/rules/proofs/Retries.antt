@@ -13,9 +13,9 @@ use Rattle.book.specs.Meaning.{Kind, Keeps}
 use Rattle.rules.specs.declared.state.Access.{Access}
 use Rattle.rules.specs.declared.state.Access.TheVariants.{Read, Write}
 use Rattle.rules.specs.declared.state.Request.{Request}
-use Rattle.rules.specs.Lists.{has}
+use Rattle.rules.specs.Lists.{contains_number}
 use Rattle.rules.specs.Logs.{log_entry, logged_lines}
-use Rattle.rules.specs.State.{WarpRow, Machine, SettledRequest, idle_row, is_idle, is_waiting}
+use Rattle.rules.specs.State.{WarpRow, MachineState, SettledRequest, idle_row, is_idle, is_waiting}
 use Rattle.rules.specs.State.{warp_row_of, time_of}
 use Rattle.rules.specs.declared.verdict.Verdict.{Verdict}
 use Rattle.rules.specs.declared.verdict.Verdict.TheVariants.{OwnLine, Gone as VerdictGone, MustWait}
@@ -42,7 +42,7 @@ pub has_transaction :
 has_transaction warp_row None p e = absurd (both_ways (is_idle warp_row.phase) e p)
 has_transaction warp_row (Some tx) p e = (tx, refl)
 
-module _ {k : Kind} (m : Machine k) (w line : ℕ) where
+module _ {k : Kind} (m : MachineState k) (w line : ℕ) where
   -- A warp has a request to retry at a line if it waits there.
   pub record TriedAt : Type 0 where
     pub waiting : is_waiting (warp_row_of m w).phase ≡ true
@@ -101,7 +101,7 @@ module _ (k : Kind) (first : Lines) (keeps : Keeps k) (start : Ledger) where
 
   -- After a served request its warp still has a transaction.
   served_current :
-      (m : Machine k) (l : Ledger) (w line : ℕ) (access : Access) (tx : Transaction)
+      (m : MachineState k) (l : Ledger) (w line : ℕ) (access : Access) (tx : Transaction)
       → l.current w ≡ Some tx
       → (t : Transaction)
       × ((ledger_after_outcome l w line access
@@ -248,13 +248,13 @@ module _ (k : Kind) (first : Lines) (keeps : Keeps k) (start : Ledger) where
       turn_keeps = turn_with_keeps (pending_access st.machine w line) refl
 
   module _ (policy : Policy k) (E₀ : Type 0)
-      (covers : (m : Machine k) (w : ℕ) (r : Request) → request_of m.queue w ≡ Some r
-      → E₀ ⊎ (has w (policy.turns m r.line) ≡ true))
+      (covers : (m : MachineState k) (w : ℕ) (r : Request) → request_of m.queue w ≡ Some r
+      → E₀ ⊎ (contains_number w (policy.turns m r.line) ≡ true))
     where
       -- Exempt: warps still to be retried at this line, and requests at the lines still to come.
       abbrev StillToRetry : ℕ → List ℕ → List ℕ → ℕ → ℕ → Type 0
-      StillToRetry line turns lines v n = (E₀ ⊎ (has n lines ≡ true))
-          ⊎ ((n ≡ line) × (has v turns ≡ true))
+      StillToRetry line turns lines v n = (E₀ ⊎ (contains_number n lines ≡ true))
+          ⊎ ((n ≡ line) × (contains_number v turns ≡ true))
 
       turns_keep :
           (line : ℕ) (lines turns : List ℕ) (st : AfterRetries k)
@@ -273,34 +273,35 @@ module _ (k : Kind) (first : Lines) (keeps : Keeps k) (start : Ledger) where
           next v n (inl e) = inl (inl e)
           next v n (inr p) =
               ⊎_elim (λ e. inr (sym (eqb-true t v e), p.0)) (λ h. inl (inr (p.0, h)))
-              (or_cases (eqb t v) (has v turns) p.1)
+              (or_cases (eqb t v) (contains_number v turns) p.1)
 
       turns_at_line_keep :
           (line : ℕ) (lines : List ℕ) (st : AfterRetries k)
-          → Invariant k first (λ v n. E₀ ⊎ (has n (line ∷ lines) ≡ true)) st.machine
+          → Invariant k first (λ v n. E₀ ⊎ (contains_number n (line ∷ lines) ≡ true)) st.machine
           (ledger_after_retries st)
-          → Invariant k first (λ v n. E₀ ⊎ (has n lines ≡ true))
+          → Invariant k first (λ v n. E₀ ⊎ (contains_number n lines ≡ true))
           (after_turns policy st line).machine
           (ledger_after_retries (after_turns policy st line))
       unfolding after_turns
       turns_at_line_keep line lines st I =
-          exempt k first (StillToRetry line [] lines) (λ v n. E₀ ⊎ (has n lines ≡ true))
+          exempt k first (StillToRetry line [] lines) (λ v n. E₀ ⊎ (contains_number n lines ≡ true))
           (fold (after_turn line) st (policy.turns st.machine line)).machine
           (ledger_after_retries (fold (after_turn line) st (policy.turns st.machine line)))
           (turns_keep line lines (policy.turns st.machine line) st
-          (exempt k first (λ v n. E₀ ⊎ (has n (line ∷ lines) ≡ true))
+          (exempt k first (λ v n. E₀ ⊎ (contains_number n (line ∷ lines) ≡ true))
           (StillToRetry line (policy.turns st.machine line) lines) st.machine
           (ledger_after_retries st) I
           (λ v r p q e. inl (begin v r q e))))
           (λ v r p q e. inl (finish v r.line e))
         where
-          finish : (v n : ℕ) → StillToRetry line [] lines v n → E₀ ⊎ (has n lines ≡ true)
+          finish : (v n : ℕ) → StillToRetry line [] lines v n
+              → E₀ ⊎ (contains_number n lines ≡ true)
           finish v n (inl e) = e
           finish v n (inr p) = absurd (both_ways false refl p.1)
 
           begin :
               (v : ℕ) (r : Request) → request_of st.machine.queue v ≡ Some r
-              → E₀ ⊎ (has r.line (line ∷ lines) ≡ true)
+              → E₀ ⊎ (contains_number r.line (line ∷ lines) ≡ true)
               → StillToRetry line (policy.turns st.machine line) lines v r.line
           begin v r q (inl e) = inl (inl e)
           begin v r q (inr h) =
@@ -309,19 +310,22 @@ module _ (k : Kind) (first : Lines) (keeps : Keeps k) (start : Ledger) where
               let same : line ≡ r.line = eqb-true line r.line e in
               ⊎_elim (λ x. inl (inl x))
               (λ x.
-              inr
-              (sym same, subst (λ n. has v (policy.turns st.machine n) ≡ true) (sym same) x))
+              inr (
+                sym same,
+                subst (λ n. contains_number v (policy.turns st.machine n) ≡ true)
+                    (sym same) x,
+              ))
               (covers st.machine v r q))
-              (λ x. inl (inr x)) (or_cases (eqb line r.line) (has r.line lines) h)
+              (λ x. inl (inr x)) (or_cases (eqb line r.line) (contains_number r.line lines) h)
 
       turns_at_lines_keep :
           (lines : List ℕ) (st : AfterRetries k)
-          → Invariant k first (λ v n. E₀ ⊎ (has n lines ≡ true)) st.machine
+          → Invariant k first (λ v n. E₀ ⊎ (contains_number n lines ≡ true)) st.machine
           (ledger_after_retries st)
           → Invariant k first (λ v n. E₀) (fold (after_turns policy) st lines).machine
           (ledger_after_retries (fold (after_turns policy) st lines))
       turns_at_lines_keep [] st I =
-          exempt k first (λ v n. E₀ ⊎ (has n [] ≡ true)) (λ v n. E₀) st.machine
+          exempt k first (λ v n. E₀ ⊎ (contains_number n [] ≡ true)) (λ v n. E₀) st.machine
           (ledger_after_retries st) I
           (λ v r p q e. inl (⊎_elim (λ x. x) (λ x. absurd (both_ways false refl x)) e))
       turns_at_lines_keep (line ∷ lines) st I =
@@ -330,8 +334,8 @@ module _ (k : Kind) (first : Lines) (keeps : Keeps k) (start : Ledger) where
 
       -- A warp gives up lines, and the requests that wait for them are retried.
       pub gives_up_keeps :
-          (m : Machine k) (w : ℕ) (warp_row : WarpRow) (lines : List ℕ)
-          → Invariant k first (λ v n. E₀ ⊎ (has n lines ≡ true))
+          (m : MachineState k) (w : ℕ) (warp_row : WarpRow) (lines : List ℕ)
+          → Invariant k first (λ v n. E₀ ⊎ (contains_number n lines ≡ true))
           (without_lines m w warp_row lines) start
           → Invariant k first (λ v n. E₀) (after_giving_up policy m w warp_row lines).machine
           (ledger_after_retries (after_giving_up policy m w warp_row lines))
@@ -342,8 +346,9 @@ module _ (k : Kind) (first : Lines) (keeps : Keeps k) (start : Ledger) where
 
       -- The end of a transaction.
       pub ends_keeps :
-          (m : Machine k) (w stamp : ℕ)
-          → Invariant k first (λ v n. E₀ ⊎ (has n (logged_lines (warp_row_of m w).log) ≡ true))
+          (m : MachineState k) (w stamp : ℕ)
+          → Invariant k first
+          (λ v n. E₀ ⊎ (contains_number n (logged_lines (warp_row_of m w).log) ≡ true))
           (without_lines m w (idle_row stamp) (logged_lines (warp_row_of m w).log)) start
           → Invariant k first (λ v n. E₀) (after_end policy m w stamp).machine
           (ledger_after_retries (after_end policy m w stamp))

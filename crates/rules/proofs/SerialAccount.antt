@@ -6,7 +6,7 @@ use Rattle.std.proofs.lemmas.Bool.{both_ways, eqb-true, or_parts, or_left, or_ri
 use Rattle.std.proofs.lemmas.List.{append_assoc, append-nil}
 use Rattle.std.specs.Option.{option_map}
 use Rattle.memory.specs.Lines.{Lines, lines_with}
-use Rattle.rules.specs.Lists.{has, last_of}
+use Rattle.rules.specs.Lists.{contains_number, last_of}
 use Rattle.rules.specs.Logs.{LogEntry}
 use Rattle.rules.specs.Steps.{lines_after_stores}
 use Rattle.rules.specs.Transactions.{Source, own_store, committed_store, initial_memory, Action}
@@ -139,19 +139,19 @@ module _ (first : Lines) (txs : List Transaction) where
 
   -- What the loads of a transaction got does not change unless it is executed again.
   pub loads_stay :
-      (i : ℕ) (order : List ℕ) (a : Account) → has i order ≡ false
+      (i : ℕ) (order : List ℕ) (a : Account) → contains_number i order ≡ false
       → (fold (account_after txs) a order).loads i ≡ a.loads i
   unfolding account_after
   loads_stay i [] a h = refl
   loads_stay i (x ∷ order) a h =
-      let k = or_parts (eqb x i) (has i order) h in
+      let k = or_parts (eqb x i) (contains_number i order) h in
       loads_stay i order (account_after txs a x) k.1
       ∙ ap (λ b. cond b (load_results_alone a (transaction_named txs x).actions) (a.loads i))
       (eqb_sym i x ∙ k.0)
 
   -- The loads of a transaction get what the account says when it is executed.
   pub loads_alone :
-      (i : ℕ) (p q : List ℕ) (a : Account) → has i q ≡ false
+      (i : ℕ) (p q : List ℕ) (a : Account) → contains_number i q ≡ false
       → (fold (account_after txs) a (p ++ i ∷ q)).loads i
       ≡ load_results_alone (fold (account_after txs) a p) (transaction_named txs i).actions
   unfolding account_after

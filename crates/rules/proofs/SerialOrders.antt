@@ -9,7 +9,7 @@ use Rattle.std.proofs.lemmas.Bool.{lt-ltb, or_left, or_right, or_cases}
 use Rattle.std.proofs.lemmas.Bool.Decides.{nat_tests}
 use Rattle.std.proofs.lemmas.List.{get_or_past}
 use Rattle.memory.specs.Lines.{Lines}
-use Rattle.rules.specs.Lists.{has, last_of, numbers_below, occurrences, is_before}
+use Rattle.rules.specs.Lists.{contains_number, last_of, numbers_below, occurrences, is_before}
 use Rattle.rules.specs.Transactions.{Source, own_store, committed_store, initial_memory}
 use Rattle.rules.specs.Transactions.{Transaction, no_transaction, last_own_store, is_written}
 use Rattle.rules.specs.Transactions.{is_read, transaction_named, writers, committed_source}
@@ -179,14 +179,14 @@ module _ (first : Lines) (txs : List Transaction) (memory : Lines)
     abbrev start : Account
     start = record { loads = λ i. []; last_values = first; line_writers = λ line. [] }
 
-    in_order : (z : ℕ) → has z order ≡ ltb z n
+    in_order : (z : ℕ) → contains_number z order ≡ ltb z n
     in_order z = has_count z order ∙ ap (ltb 0) (each z) ∙ step (ltb z n)
       where
         step : (b : Bool) → ltb 0 (cond b 1 0) ≡ b
         step true = refl
         step false = refl
 
-    stands : (z : ℕ) → z < n → has z order ≡ true
+    stands : (z : ℕ) → z < n → contains_number z order ≡ true
     stands z l = in_order z ∙ lt-ltb z n l
 
     once : Once order
@@ -208,30 +208,31 @@ module _ (first : Lines) (txs : List Transaction) (memory : Lines)
     serial_values line p = values_alone first txs line p start None refl (λ i h. S.there line i h)
 
     -- If the order is split at a name, that name is in neither part.
-    not_front : (i : ℕ) (p q : List ℕ) → order ≡ p ++ i ∷ q → has i p ≡ false
+    not_front : (i : ℕ) (p q : List ℕ) → order ≡ p ++ i ∷ q → contains_number i p ≡ false
     not_front i p q e =
         ⊎_elim
         (λ h.
         absurd
         (once_apart i p (i ∷ q) (subst Once e once) h
-        (or_left (eqb i i) (has i q) (eq-eqb i i refl))))
-        (λ h. h) (cases_Bool (has i p))
+        (or_left (eqb i i) (contains_number i q) (eq-eqb i i refl))))
+        (λ h. h) (cases_Bool (contains_number i p))
 
-    not_back : (i : ℕ) (p q : List ℕ) → order ≡ p ++ i ∷ q → has i q ≡ false
+    not_back : (i : ℕ) (p q : List ℕ) → order ≡ p ++ i ∷ q → contains_number i q ≡ false
     not_back i p q e =
         ⊎_elim
         (λ h. absurd (once_apart i (p ++ i ∷ []) q (subst Once (e ∙ regroup p) once)
         (in_front p) h))
-        (λ h. h) (cases_Bool (has i q))
+        (λ h. h) (cases_Bool (contains_number i q))
       where
         regroup : (l : List ℕ) → l ++ i ∷ q ≡ (l ++ i ∷ []) ++ q
         regroup [] = refl
         regroup (x ∷ l) = ap (λ r. x ∷ r) (regroup l)
 
-        in_front : (l : List ℕ) → has i (l ++ i ∷ []) ≡ true
+        in_front : (l : List ℕ) → contains_number i (l ++ i ∷ []) ≡ true
         in_front l =
             has_append i l (i ∷ [])
-            ∙ or_right (has i l) (has i (i ∷ [])) (or_left (eqb i i) false (eq-eqb i i refl))
+            ∙ or_right (contains_number i l) (contains_number i (i ∷ []))
+            (or_left (eqb i i) false (eq-eqb i i refl))
 
     -- From logical order to equal accounts.
     module _ (logical : IsInLogicalOrder txs order) where
@@ -265,18 +266,18 @@ module _ (first : Lines) (txs : List Transaction) (memory : Lines)
           (transaction_named txs i).warp line v f)
           (reader : is_read (transaction_named txs i).actions line ≡ true)
         where
-          front_seen : (j : ℕ) → has j (filter (wr line) p) ≡ true → j < commits_seen f
+          front_seen : (j : ℕ) → contains_number j (filter (wr line) p) ≡ true → j < commits_seen f
           front_seen j h = ⊎_elim (λ l. l) late (cases_lt j (commits_seen f))
             where
-              j_front : has j p ≡ true
+              j_front : contains_number j p ≡ true
               j_front = (has_of_filter (wr line) j p h).0
 
               j_writes : wr line j ≡ true
               j_writes = (has_of_filter (wr line) j p h).1
 
               other : j ≡ i → ⊥
-              other e = both_ways (has i p) (not_front i p q cut)
-                  (subst (λ z. has z p ≡ true) e j_front)
+              other e = both_ways (contains_number i p) (not_front i p q cut)
+                  (subst (λ z. contains_number z p ≡ true) e j_front)
 
               late : commits_seen f ≤ j → j < commits_seen f
               late l =
@@ -291,16 +292,16 @@ module _ (first : Lines) (txs : List Transaction) (memory : Lines)
                   )
                   (earlier_bit i j i_low (below line j j_writes) (right.after j j_writes l other))
                   in
-                  let in_back : has j q ≡ true =
+                  let in_back : contains_number j q ≡ true =
                   sym (before_at p q i j (not_front i p q cut))
                   ∙ subst (λ o. is_before o i j ≡ true) cut first_i
                   in
                   absurd
                   (once_apart j p (i ∷ q) (subst Once cut once) j_front
-                  (or_right (eqb i j) (has j q) in_back))
+                  (or_right (eqb i j) (contains_number j q) in_back))
 
           seen_front : (j : ℕ) → wr line j ≡ true → j < commits_seen f
-              → has j (filter (wr line) p) ≡ true
+              → contains_number j (filter (wr line) p) ≡ true
           seen_front j t l =
               filter_has (wr line) j p
               (before_in_front p q j i (not_front i p q cut) (not_back i p q cut)
@@ -327,9 +328,9 @@ module _ (first : Lines) (txs : List Transaction) (memory : Lines)
             where
               step :
                   (g : Source) → NamesWriter first txs g line
-                  → ((j : ℕ) → has j (filter (wr line) p) ≡ true → j < commits_seen g)
+                  → ((j : ℕ) → contains_number j (filter (wr line) p) ≡ true → j < commits_seen g)
                   → ((j : ℕ) → wr line j ≡ true → j < commits_seen g
-                  → has j (filter (wr line) p) ≡ true)
+                  → contains_number j (filter (wr line) p) ≡ true)
                   → committed_source (last_of (filter (wr line) p)) ≡ g
               step own_store bad up down = absurd bad
               step (committed_store j) t up down =
@@ -341,7 +342,7 @@ module _ (first : Lines) (txs : List Transaction) (memory : Lines)
                   (last_none (filter (wr line) p)
                   (λ y.
                   ⊎_elim (λ h. let l = up y h in absurd (omega arith)) (λ h. h)
-                  (cases_Bool (has y (filter (wr line) p)))))
+                  (cases_Bool (contains_number y (filter (wr line) p)))))
 
           gets : ((serial_account first txs p).last_values line ≡ Some v)
               × (committed_source (last_of ((serial_account first txs p).line_writers line)) ≡ f)
@@ -476,7 +477,7 @@ module _ (first : Lines) (txs : List Transaction) (memory : Lines)
                 (p q : List ℕ) → order ≡ p ++ b ∷ q → (f : Source)
                 → ((j : ℕ) → wr line j ≡ true → commits_seen f ≤ j → (j ≡ b → ⊥)
                 → Earlier (key_at first txs b) b (key_at first txs j) j)
-                → f ≡ committed_source (last_of (filter (wr line) p)) → has a p ≡ true
+                → f ≡ committed_source (last_of (filter (wr line) p)) → contains_number a p ≡ true
             in_front p q cut f later e = by_last (last_of (filter (wr line) p)) refl
               where
                 saw : a < commits_seen f
@@ -488,10 +489,11 @@ module _ (first : Lines) (txs : List Transaction) (memory : Lines)
                     absurd (omega (arith, t.1, u.1)))
                     (cases_lt a (commits_seen f))
 
-                in_whole : has a (p ++ b ∷ q) ≡ true
-                in_whole = subst (λ o. has a o ≡ true) cut (stands a a_low)
+                in_whole : contains_number a (p ++ b ∷ q) ≡ true
+                in_whole = subst (λ o. contains_number a o ≡ true) cut (stands a a_low)
 
-                by_last : (o : Option ℕ) → last_of (filter (wr line) p) ≡ o → has a p ≡ true
+                by_last : (o : Option ℕ) → last_of (filter (wr line) p) ≡ o
+                    → contains_number a p ≡ true
                 by_last None k =
                     let z : commits_seen f ≡ 0 = ap commits_seen (e ∙ ap committed_source k)
                     in absurd (omega (arith, saw))
@@ -505,7 +507,8 @@ module _ (first : Lines) (txs : List Transaction) (memory : Lines)
                     (last_is_in (filter (wr line) p) j k) (filter_has (wr line) a (b ∷ q) h ta)
                     in
                     absurd (omega (arith, saw)))
-                    (or_cases (has a p) (has a (b ∷ q)) (sym (has_append a p (b ∷ q)) ∙ in_whole))
+                    (or_cases (contains_number a p) (contains_number a (b ∷ q))
+                    (sym (has_append a p (b ∷ q)) ∙ in_whole))
 
         reader_first :
             wr line a ≡ false → is_read (transaction_named txs a).actions line ≡ true
@@ -522,15 +525,15 @@ module _ (first : Lines) (txs : List Transaction) (memory : Lines)
                 (p q : List ℕ) → order ≡ p ++ a ∷ q → (f : Source)
                 → ((j : ℕ) → wr line j ≡ true → j < commits_seen f
                 → stamp_at first txs j < (transaction_named txs a).stamp)
-                → f ≡ committed_source (last_of (filter (wr line) p)) → has b q ≡ true
+                → f ≡ committed_source (last_of (filter (wr line) p)) → contains_number b q ≡ true
             in_back p q cut f sooner e =
-                by_cases (or_cases (has b p) (has b (a ∷ q))
+                by_cases (or_cases (contains_number b p) (contains_number b (a ∷ q))
                 (sym (has_append b p (a ∷ q)) ∙ in_whole))
               where
-                in_whole : has b (p ++ a ∷ q) ≡ true
-                in_whole = subst (λ o. has b o ≡ true) cut (stands b b_low)
+                in_whole : contains_number b (p ++ a ∷ q) ≡ true
+                in_whole = subst (λ o. contains_number b o ≡ true) cut (stands b b_low)
 
-                not_sooner : has b p ≡ true → ⊥
+                not_sooner : contains_number b p ≡ true → ⊥
                 not_sooner h =
                     let k = filter_has (wr line) b p h tb in
                     let j = last_some (filter (wr line) p) b k in
@@ -544,9 +547,10 @@ module _ (first : Lines) (txs : List Transaction) (memory : Lines)
                     let t = bit_earlier a b a_low b_low time in
                     omega (arith, t.1, S.warps a a_low, S.warps b b_low)
 
-                by_cases : (has b p ≡ true) ⊎ ((eqb a b || has b q) ≡ true) → has b q ≡ true
+                by_cases : (contains_number b p ≡ true) ⊎ ((eqb a b || contains_number b q) ≡ true)
+                    → contains_number b q ≡ true
                 by_cases (inl h) = absurd (not_sooner h)
-                by_cases (inr h) = sym (ap (λ c. c || has b q) (ne_eqb a b apart)) ∙ h
+                by_cases (inr h) = sym (ap (λ c. c || contains_number b q) (ne_eqb a b apart)) ∙ h
 
         stands_first :
             ConflictKind (wr line a) (is_read (transaction_named txs a).actions line) (wr line b)

@@ -8,7 +8,7 @@ use Rattle.std.specs.Option.{option_map}
 use Rattle.protocol.specs.Limits.{line_limit}
 use Rattle.memory.specs.Lines.{Lines}
 use Rattle.book.specs.Meaning.{Kind}
-use Rattle.rules.specs.Lists.{has}
+use Rattle.rules.specs.Lists.{contains_number}
 use Rattle.rules.specs.Logs.{log_entry}
 use Rattle.rules.specs.Transactions.{Action, loaded, stored, Transaction, last_own_store}
 use Rattle.rules.specs.Transactions.{is_written, transaction_stores, store_count}
@@ -174,15 +174,16 @@ module _ (k : Kind) where
     -- Releasing some lines leaves the counts of the lines that are still held.
     pub counts_after_release :
         (w : ℕ) (gone : List ℕ) (o : Option Transaction)
-        → ((line : ℕ) → has line gone ≡ true → (t : ℕ) × (hold l w line ≡ Some t))
-        → ((line : ℕ) → line < line_limit → has line gone ≡ false
+        → ((line : ℕ) → contains_number line gone ≡ true → (t : ℕ) × (hold l w line ≡ Some t))
+        → ((line : ℕ) → line < line_limit → contains_number line gone ≡ false
         → k.stores s' line ≡ k.stores s line)
         → ((tx : Transaction) → o ≡ Some tx → (line : ℕ) → is_written tx.actions line ≡ true
         → k.stores s' line ≡ store_count tx.actions line)
         → CountsAgree (with_current l w o) s'
     counts_after_release w gone o its same left h t e line x = step (current_cases l w o h t e)
       where
-        not_gone : (h ≡ w → ⊥) → l.current h ≡ Some t → (b : Bool) → has line gone ≡ b → b ≡ false
+        not_gone : (h ≡ w → ⊥) → l.current h ≡ Some t → (b : Bool) → contains_number line gone ≡ b
+            → b ≡ false
         not_gone n p true y =
             let q = its line y in
             let a = owned h t p line x in
@@ -196,7 +197,7 @@ module _ (k : Kind) where
             → k.stores s' line ≡ store_count t.actions line
         step (inl p) = left t p.1 line x
         step (inr p) =
-            same line (low h t p.1 line x) (not_gone p.0 p.1 (has line gone) refl)
+            same line (low h t p.1 line x) (not_gone p.0 p.1 (contains_number line gone) refl)
             ∙ T h t p.1 line x
 
   -- A new transaction has stored nothing.

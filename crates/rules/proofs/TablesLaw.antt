@@ -6,7 +6,7 @@ use Rattle.std.proofs.lemmas.Bool.{eqb-true, not-false}
 use Rattle.protocol.specs.Limits.{line_limit}
 use Rattle.memory.specs.Lines.{Lines}
 use Rattle.book.specs.Meaning.{Kind, Keeps, is_reserved}
-use Rattle.rules.specs.State.{Machine, warp_row_of}
+use Rattle.rules.specs.State.{MachineState, warp_row_of}
 use Rattle.rules.specs.Making.{new_machine}
 use Rattle.rules.specs.Runs.{run}
 use Rattle.rules.specs.Transactions.{Transaction}
@@ -17,7 +17,8 @@ use Rattle.rules.proofs.Invariant.{Running, Matches, Invariant, holds_line}
 use Rattle.rules.proofs.Calls.{run_keeps, new_keeps}
 
 module _
-    (k : Kind) (keeps : Keeps k) (first : Lines) (E : ℕ → ℕ → Type 0) (m : Machine k) (l : Ledger)
+    (k : Kind) (keeps : Keeps k) (first : Lines) (E : ℕ → ℕ → Type 0) (m : MachineState k)
+    (l : Ledger)
     (I : Invariant k first E m l)
   where
     runs : (w : ℕ) (tx : Transaction) → l.current w ≡ Some tx → Running (warp_row_of m w) tx

@@ -8,7 +8,7 @@ use Rattle.std.proofs.lemmas.Bool.{both_ways, ltb-true, lt-ltb, le-ltb, cases_eq
 use Rattle.protocol.specs.declared.fault.Fault.{Fault}
 use Rattle.memory.specs.Lines.{Lines}
 use Rattle.book.specs.Meaning.{Kind, count_below}
-use Rattle.rules.specs.State.{Machine, idle_row, is_waiting, warp_row_of}
+use Rattle.rules.specs.State.{MachineState, idle_row, is_waiting, warp_row_of}
 use Rattle.rules.specs.Making.{making_fault, first_warp_rows, new_machine}
 use Rattle.rules.specs.Runs.{run}
 use Rattle.rules.specs.Ledger.{Ledger, ledger_of}
@@ -75,7 +75,7 @@ counted_not_all p n z l e =
     let b = counted_most (λ x. true) n in
     omega arith
 
-module _ (k : Kind) (first : Lines) (m : Machine k) (l : Ledger)
+module _ (k : Kind) (first : Lines) (m : MachineState k) (l : Ledger)
     (I : Invariant k first (λ v n. ⊥) m l) where
   -- A waiting warp waits for the one holder of its line.
   next : (w : ℕ) → is_waiting_now m w ≡ true → (h : ℕ) × WaitsFor m l w h
@@ -183,7 +183,7 @@ law_of_waits k keeps policy covers lines book good stamps calls =
         (ap (λ o. first_warp_rows o stamps) e) refl
         in
         let none : (run policy (new_machine k lines book stamps) calls).machine.warp_rows ≡ [] =
-        ap (λ (m : Machine k). m.warp_rows) kept.0 ∙ ap (λ o. first_warp_rows o stamps) e
+        ap (λ (m : MachineState k). m.warp_rows) kept.0 ∙ ap (λ o. first_warp_rows o stamps) e
         in
         λ w p.
         absurd

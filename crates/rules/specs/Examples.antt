@@ -7,7 +7,7 @@ use Rattle.book.specs.Exact.{exact, exact_new}
 use Rattle.protocol.specs.declared.answer.Outcome.TheVariants.{Value, Stored, Gone as OutcomeGone}
 use Rattle.rules.specs.declared.state.Phase.{Phase}
 use Rattle.rules.specs.declared.state.Phase.TheVariants.{Idle, Open, Waiting, Settled}
-use Rattle.rules.specs.State.{WarpRow, Machine}
+use Rattle.rules.specs.State.{WarpRow, MachineState}
 use Rattle.rules.specs.Queue.{product_policy}
 use Rattle.rules.specs.Making.{new_machine}
 use Rattle.rules.specs.Runs.{Run, run_with_call}
@@ -161,7 +161,7 @@ row_with_stamp_taken warp_row =
     record warp_row { stamp = next_stamp_taken warp_row.phase warp_row.stamp }
 
 -- The wrong machine, where every warp does so.
-abbrev pub with_stamps_taken : Machine exact → Machine exact
+abbrev pub with_stamps_taken : MachineState exact → MachineState exact
 with_stamps_taken m = record m { warp_rows = map row_with_stamp_taken m.warp_rows }
 
 -- A run of the wrong machine with one more call.

@@ -17,9 +17,9 @@ use Rattle.memory.specs.Lines.{Lines}
 use Rattle.book.specs.Meaning.{Kind, Keeps}
 use Rattle.rules.specs.declared.state.Access.TheVariants.{Read, Write}
 use Rattle.rules.specs.declared.state.Request.{Request}
-use Rattle.rules.specs.Lists.{has}
+use Rattle.rules.specs.Lists.{contains_number}
 use Rattle.rules.specs.Logs.{log_entry}
-use Rattle.rules.specs.State.{is_idle, Machine, SettledRequest, warp_row_of, is_waiting}
+use Rattle.rules.specs.State.{is_idle, MachineState, SettledRequest, warp_row_of, is_waiting}
 use Rattle.rules.specs.Queue.{Policy, request_of, product_policy}
 use Rattle.rules.specs.Refusals.{fault_of}
 use Rattle.rules.specs.Steps.{refused_step, step}
@@ -99,10 +99,10 @@ IsHolder l line h =
     (tx : Transaction) × (l.current h ≡ Some tx) × (is_written tx.actions line ≡ true)
 
 -- The warp waits.
-abbrev pub is_waiting_now : {k : Kind} → Machine k → ℕ → Bool
+abbrev pub is_waiting_now : {k : Kind} → MachineState k → ℕ → Bool
 is_waiting_now m w = is_waiting (warp_row_of m w).phase
 
-module _ {k : Kind} (m : Machine k) (l : Ledger) where
+module _ {k : Kind} (m : MachineState k) (l : Ledger) where
   -- A warp waits for a line that exactly one warp holds, and the holder has a smaller stamp.
   pub record WaitsFor (w h : ℕ) : Type 0 where
     pub waiting : is_waiting_now m w ≡ true
@@ -152,8 +152,8 @@ module _ {k : Kind} (m : Machine k) (l : Ledger) where
 -- An order of turns leaves out no request that waits.
 abbrev pub Covers : {k : Kind} → Policy k → Type 0
 Covers {k} policy =
-    (m : Machine k) (w : ℕ) (r : Request) → request_of m.queue w ≡ Some r
-    → has w (policy.turns m r.line) ≡ true
+    (m : MachineState k) (w : ℕ) (r : Request) → request_of m.queue w ≡ Some r
+    → contains_number w (policy.turns m r.line) ≡ true
 
 -- One run, from an initial memory, keeps the law of accounts and the law of waits, and some order
 -- explains it.
@@ -216,6 +216,6 @@ module _ (k : Kind) where
   -- A refused call returns its fault and changes nothing: no warp, log, queue, book or line.
   abbrev pub RefusalsChangeNothing : Type 0
   RefusalsChangeNothing =
-      (policy : Policy k) (m : Machine k) (call : Call) (fault : Fault)
+      (policy : Policy k) (m : MachineState k) (call : Call) (fault : Fault)
       → fault_of m call ≡ Some fault
       → step policy m call ≡ refused_step m fault

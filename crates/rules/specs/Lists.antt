@@ -4,12 +4,12 @@ use Rattle.std.specs.Prelude.{ℕ, zero, suc, ◌+◌, Bool, false, cond, List, 
 use Rattle.std.specs.Prelude.{fold, Option, ◌==◌}
 
 -- The list contains the number.
-abbrev pub has : ℕ → List ℕ → Bool
-has n xs = list_any (λ x. x == n) xs
+abbrev pub contains_number : ℕ → List ℕ → Bool
+contains_number n xs = list_any (λ x. x == n) xs
 
 -- The list, with the number added at its end unless the list contains it.
 abbrev pub push_new : List ℕ → ℕ → List ℕ
-push_new seen n = cond (has n seen) seen (seen ++ n ∷ [])
+push_new seen n = cond (contains_number n seen) seen (seen ++ n ∷ [])
 
 -- Each number of the list once, in the order in which they first occur.
 abbrev pub distinct_numbers : List ℕ → List ℕ
@@ -32,4 +32,4 @@ occurrences n (x ∷ xs) = cond (x == n) 1 0 + occurrences n xs
 -- One number is before another: the second occurs after the first occurrence of the first.
 abbrev pub is_before : List ℕ → ℕ → ℕ → Bool
 is_before [] a b = false
-is_before (x ∷ xs) a b = cond (x == a) (has b xs) (is_before xs a b)
+is_before (x ∷ xs) a b = cond (x == a) (contains_number b xs) (is_before xs a b)

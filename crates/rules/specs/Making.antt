@@ -8,7 +8,7 @@ use Rattle.protocol.specs.declared.fault.Fault.{Fault}
 use Rattle.protocol.specs.declared.fault.Refusal.TheVariants.{BadSize, BadStamp}
 use Rattle.memory.specs.Lines.{Lines}
 use Rattle.book.specs.Meaning.{Kind}
-use Rattle.rules.specs.State.{WarpRow, Machine, idle_row}
+use Rattle.rules.specs.State.{WarpRow, MachineState, idle_row}
 use Rattle.rules.specs.Refusals.{fault_unless}
 
 -- The first of some stamps that is past the end of the clock, if any.
@@ -36,7 +36,7 @@ module _ (k : Kind) where
       (fault_unless (latest == 0) BadStamp latest))
 
   -- A new machine: every warp is idle at its first stamp, and no request waits.
-  abbrev pub new_machine : Lines → k.State → List ℕ → Machine k
+  abbrev pub new_machine : Lines → k.State → List ℕ → MachineState k
   new_machine lines book stamps =
       record {
         lines = lines;

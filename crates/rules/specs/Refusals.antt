@@ -17,7 +17,7 @@ use Rattle.protocol.specs.declared.fault.Refusal.TheVariants.{ClockSpent}
 use Rattle.book.specs.Meaning.{Kind}
 use Rattle.rules.specs.declared.state.Phase.{Phase}
 use Rattle.rules.specs.declared.state.Phase.TheVariants.{Idle, Open, Waiting, Settled}
-use Rattle.rules.specs.State.{Machine, warp_row_of}
+use Rattle.rules.specs.State.{MachineState, warp_row_of}
 
 -- What a warp without a transaction may not ask for.
 abbrev pub idle_refusal : Op → Option Refusal
@@ -63,12 +63,12 @@ fault_unless test why number = cond test None (Some (fault_in_call why number))
 
 module _ {k : Kind} where
   -- A load or a store may name the line: the memory has it, and a book can number it.
-  abbrev pub has_line : Machine k → ℕ → Bool
+  abbrev pub has_line : MachineState k → ℕ → Bool
   has_line m line = nat_lt line line_limit && is_some (m.lines line)
 
   -- The fault of a call with a bad number: the clock has run out, there is no such line, or the log
   -- is full.
-  abbrev pub number_fault : Machine k → ℕ → Op → Option Fault
+  abbrev pub number_fault : MachineState k → ℕ → Op → Option Fault
   number_fault m w Begin =
       let stamp = (warp_row_of m w).stamp in fault_unless (nat_le stamp last_stamp) ClockSpent stamp
   number_fault m w (Load line) = fault_unless (has_line m line) NoSuchLine line
@@ -81,7 +81,7 @@ module _ {k : Kind} where
   number_fault m w Fetch = None
 
   -- The fault of a call, if it is refused: the first one in the order of the refusals.
-  abbrev pub fault_of : Machine k → Call → Option Fault
+  abbrev pub fault_of : MachineState k → Call → Option Fault
   fault_of m call =
       option_or (fault_unless (nat_lt call.warp (length m.warp_rows)) NoSuchWarp call.warp)
       (option_or (refusal_fault (phase_refusal (warp_row_of m call.warp).phase call.op) call.warp)

@@ -4,7 +4,7 @@ use Rattle.protocol.specs.declared.answer.Answer.{Answer}
 use Rattle.protocol.specs.declared.call.Call.{Call}
 use Rattle.protocol.specs.declared.fault.Fault.{Fault}
 use Rattle.book.specs.Meaning.{Kind}
-use Rattle.rules.specs.State.{Machine, SettledRequest, warp_row_of}
+use Rattle.rules.specs.State.{MachineState, SettledRequest, warp_row_of}
 use Rattle.rules.specs.Queue.{Policy}
 use Rattle.rules.specs.Steps.{step}
 
@@ -18,12 +18,12 @@ pub record Event : Type 0 where
 
 -- What calls leave: the machine, and the events, in order.
 pub record Run (k : Kind) : Type 0 where
-  pub machine : Machine k
+  pub machine : MachineState k
   pub events : List Event
 
 module _ {k : Kind} where
   -- The event of a call.
-  abbrev pub event_of : Policy k → Machine k → Call → Event
+  abbrev pub event_of : Policy k → MachineState k → Call → Event
   event_of policy m call =
       let s = step policy m call in
       record {
@@ -42,7 +42,7 @@ module _ {k : Kind} where
       }
 
   -- The run of some calls, from a machine on.
-  abbrev pub run : Policy k → Machine k → List Call → Run k
+  abbrev pub run : Policy k → MachineState k → List Call → Run k
   run policy m calls = fold (run_with_call policy) (record { machine = m; events = [] }) calls
 
 -- All requests that were settled in some events, in order.

@@ -21,7 +21,7 @@ pub record WarpRow : Type 0 where
 -- The machine: the value of each memory line, the state of its version book, a row for each warp,
 -- and the queue of waiting requests, oldest first. The book says which transactions may still load
 -- or store a line.
-pub record Machine (k : Kind) : Type 0 where
+pub record MachineState (k : Kind) : Type 0 where
   pub lines : Lines
   pub book : k.State
   pub warp_rows : List WarpRow
@@ -71,25 +71,25 @@ warp_row_at warp_rows w = slice_index_or warp_rows w (idle_row 0)
 
 module _ {k : Kind} where
   -- The row of a warp of the machine.
-  abbrev pub warp_row_of : Machine k → ℕ → WarpRow
+  abbrev pub warp_row_of : MachineState k → ℕ → WarpRow
   warp_row_of m w = warp_row_at m.warp_rows w
 
   -- The logical time of a warp's transaction: its stamp, then its warp number.
-  abbrev pub time_of : Machine k → ℕ → Time
+  abbrev pub time_of : MachineState k → ℕ → Time
   time_of m w = ((warp_row_of m w).stamp, w)
 
   -- The machine with another memory.
-  abbrev pub with_lines : Machine k → Lines → Machine k
+  abbrev pub with_lines : MachineState k → Lines → MachineState k
   with_lines m lines = record m { lines = lines }
 
   -- The machine with another state of its book.
-  abbrev pub with_book : Machine k → k.State → Machine k
+  abbrev pub with_book : MachineState k → k.State → MachineState k
   with_book m book = record m { book = book }
 
   -- The machine with another row for a warp.
-  abbrev pub with_warp_row : Machine k → ℕ → WarpRow → Machine k
+  abbrev pub with_warp_row : MachineState k → ℕ → WarpRow → MachineState k
   with_warp_row m w warp_row = record m { warp_rows = slice_set m.warp_rows w warp_row }
 
   -- The machine with another queue.
-  abbrev pub with_queue : Machine k → List Request → Machine k
+  abbrev pub with_queue : MachineState k → List Request → MachineState k
   with_queue m queue = record m { queue = queue }

@@ -40,16 +40,16 @@ exact_run stamps values calls =
     run (product_policy exact) (new_machine exact (word_lines values) exact_new stamps) calls
 
 -- A call, and its answer or its refusal.
-pub record Row : Type 0 where
+pub record WorkedCall : Type 0 where
   pub call : Call
   pub reply : Result Answer Fault
 
 -- A call that is answered.
-abbrev pub answered_row : Call → Answer → Row
+abbrev pub answered_row : Call → Answer → WorkedCall
 answered_row call answer = record { call = call; reply = Ok answer }
 
 -- A call that is refused.
-abbrev pub refused_row : Call → Fault → Row
+abbrev pub refused_row : Call → Fault → WorkedCall
 refused_row call fault = record { call = call; reply = Err fault }
 
 -- A worked run: the first stamps and line values, each call with its answer, and the line values at
@@ -57,7 +57,7 @@ refused_row call fault = record { call = call; reply = Err fault }
 pub record WorkedRun : Type 0 where
   pub stamps : List ℕ
   pub first_values : List ℕ
-  pub rows : List Row
+  pub rows : List WorkedCall
   pub last_values : List ℕ
 
 -- A load of a line that is written later aborts. Begun again after the writer's commit, the
@@ -226,13 +226,13 @@ worked_runs =
 -- The answers to the calls and the line values at the end, as the rules give them.
 abbrev pub run_result : WorkedRun → List (Result Answer Fault) × List (Option ℕ)
 run_result r =
-    let after = exact_run r.stamps r.first_values (map (λ (row : Row). row.call) r.rows) in
+    let after = exact_run r.stamps r.first_values (map (λ (row : WorkedCall). row.call) r.rows) in
     let lines = numbers_below (length r.first_values) in
     (map (λ (e : Event). e.answer) after.events, map after.machine.lines lines)
 
 -- The same, as the worked run states them.
 abbrev pub stated_result : WorkedRun → List (Result Answer Fault) × List (Option ℕ)
-stated_result r = (map (λ (row : Row). row.reply) r.rows, map Some r.last_values)
+stated_result r = (map (λ (row : WorkedCall). row.reply) r.rows, map Some r.last_values)
 
 -- The rules give what each worked run states.
 abbrev pub WorkedRunsStand : Type 0

@@ -1,6 +1,6 @@
 -- Released, idle, and then retried.
 use Rattle.std.proofs.Common.{ap, ◌∙◌}
-use Rattle.rules.specs.State.{Machine, idle_row, is_waiting, warp_row_of}
+use Rattle.rules.specs.State.{MachineState, idle_row, is_waiting, warp_row_of}
 use Rattle.machine.specs.Warps.{warp_rows, queue_of}
 use Rattle.machine.specs.Meaning.{state, policy_of}
 use Rattle.machine.proofs.TransactionEnd.{after_giving_up_is}
@@ -8,7 +8,8 @@ use Rattle.machine.proofs.machine.Machine.give_up.Goals as goal
 
 pub make_idle-requires-clause-free : goal.make_idle-requires-clause-free
 make_idle-requires-clause-free g c =
-    ap (λ (m : Machine _). is_waiting (warp_row_of m c.args.warp).phase) c.release_all.ensures.after
+    ap (λ (m : MachineState _). is_waiting (warp_row_of m c.args.warp).phase)
+    c.release_all.ensures.after
     ∙ c.requires.free
 
 pub returns-clause-after : goal.returns-clause-after

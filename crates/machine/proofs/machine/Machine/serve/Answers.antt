@@ -1,7 +1,7 @@
 -- By the access: a load notes its read, a store reserves the line and is logged.
 use Rattle.std.proofs.Common.{◌<◌, length, sym, ap, ◌∙◌, subst}
 use Rattle.protocol.specs.Limits.{log_limit}
-use Rattle.rules.specs.State.{Machine, warp_row_of}
+use Rattle.rules.specs.State.{MachineState, warp_row_of}
 use Rattle.machine.specs.Phases.{is_open}
 use Rattle.machine.specs.Warps.{warp_rows}
 use Rattle.machine.specs.Meaning.{state}
@@ -23,14 +23,14 @@ returns-in-Read-clause-answer g c =
 
 pub log_store-requires-clause-open : goal.log_store-requires-clause-open
 log_store-requires-clause-open g c =
-    ap (λ (m : Machine _). is_open (warp_row_of m c.args.request.warp).phase)
+    ap (λ (m : MachineState _). is_open (warp_row_of m c.args.request.warp).phase)
     c.reserve.ensures.after ∙ c.requires.open
 
 pub log_store-requires-clause-room : goal.log_store-requires-clause-room
 log_store-requires-clause-room g c =
     let m = state g.M.Memory.at g.B.Book.kind g.B.Book.model c.args.self.now in
     let w = c.args.request.warp in
-    subst (λ (m : Machine _). length (warp_row_of m w).log < log_limit)
+    subst (λ (m : MachineState _). length (warp_row_of m w).log < log_limit)
     (sym c.reserve.ensures.after)
     (room_for_store m w c.args.request.line c.args.request.access c.in-Write.value c.in-Write.is
     c.requires.room)

@@ -1,7 +1,7 @@
 -- Withdrawn, its warp is open and keeps its room; served, it is still open, and its outcome has no
 -- next stamp.
 use Rattle.std.proofs.Common.{◌≤◌, sym, ap, ◌∙◌, subst}
-use Rattle.rules.specs.State.{Machine, warp_row_of}
+use Rattle.rules.specs.State.{MachineState, warp_row_of}
 use Rattle.rules.specs.Serving.{served_on_free_line}
 use Rattle.machine.specs.Phases.{highest_stamp, next_stamp, is_open}
 use Rattle.machine.specs.Warps.{has_room}
@@ -14,7 +14,7 @@ pub serve-outcome-requires-clause-open : goal.serve-outcome-requires-clause-open
 serve-outcome-requires-clause-open g c =
     let m = state g.M.Memory.at g.B.Book.kind g.B.Book.model c.args.self.now in
     let w = c.args.request.warp in
-    ap (λ (x : Machine _). is_open (warp_row_of x w).phase) c.withdraw.ensures.after
+    ap (λ (x : MachineState _). is_open (warp_row_of x w).phase) c.withdraw.ensures.after
     ∙ withdrawn_open m w c.requires.waiting
 
 pub serve-outcome-requires-clause-room : goal.serve-outcome-requires-clause-room
@@ -22,7 +22,7 @@ serve-outcome-requires-clause-room g c =
     let m = state g.M.Memory.at g.B.Book.kind g.B.Book.model c.args.self.now in
     let w = c.args.request.warp in
     let access = c.args.request.access in
-    ap (λ (x : Machine _). has_room (warp_row_of x w) access) c.withdraw.ensures.after
+    ap (λ (x : MachineState _). has_room (warp_row_of x w) access) c.withdraw.ensures.after
     ∙ withdrawn_room m w c.requires.waiting access c.requires.room
 
 pub settle-requires-clause-open : goal.settle-requires-clause-open
@@ -30,9 +30,9 @@ settle-requires-clause-open g c =
     let m = state g.M.Memory.at g.B.Book.kind g.B.Book.model c.args.self.now in
     let mid = state g.M.Memory.at g.B.Book.kind g.B.Book.model c.withdraw.new.self in
     let w = c.args.request.warp in
-    ap (λ (x : Machine _). is_open (warp_row_of x w).phase) c.serve-outcome.ensures.after
+    ap (λ (x : MachineState _). is_open (warp_row_of x w).phase) c.serve-outcome.ensures.after
     ∙ served_open mid w c.args.request.line c.args.request.access
-    (ap (λ (x : Machine _). is_open (warp_row_of x w).phase) c.withdraw.ensures.after
+    (ap (λ (x : MachineState _). is_open (warp_row_of x w).phase) c.withdraw.ensures.after
     ∙ withdrawn_open m w c.requires.waiting)
 
 pub settle-requires-clause-bound : goal.settle-requires-clause-bound

@@ -4,7 +4,7 @@ use Rattle.std.proofs.lemmas.List.{get_or-set_same}
 use Rattle.rules.specs.State.{idle_row, warp_row_at, row_in_phase}
 use Rattle.rules.specs.declared.state.Phase.TheVariants.{Waiting}
 use Rattle.machine.specs.Warps.{warp_rows, warp_row}
-use Rattle.machine.specs.Soundness.{IsSound}
+use Rattle.machine.specs.Soundness.{QueueFitsRows}
 use Rattle.machine.proofs.SoundQueue.{has_request, free, room_for, room_in_phase, IsSound-wait}
 use Rattle.machine.proofs.SoundQueue.{open_row}
 use Rattle.machine.proofs.warps.Warps.wait.Goals as goal
@@ -40,6 +40,6 @@ invariant_of-self c =
     let roomy = room_in_phase (warp_row old r.warp) Waiting r.access ∙ c.requires.room in
     record {
       count = t.count;
-      sound = subst (IsSound t.rows.items) (sym c.push.ensures)
+      sound = subst (QueueFitsRows t.rows.items) (sym c.push.ensures)
           (IsSound-wait t r (row_in_phase (warp_row old r.warp) Waiting) none here refl roomy);
     }

@@ -1,6 +1,6 @@
 -- A request may leave; then its warp has none.
 use Rattle.std.proofs.Common.{sym, ap, ◌∙◌, subst}
-use Rattle.machine.specs.Soundness.{IsSound}
+use Rattle.machine.specs.Soundness.{QueueFitsRows}
 use Rattle.machine.proofs.SoundQueue.{has_request, no_request_left, IsSound-queue_without}
 use Rattle.machine.proofs.SoundQueue.{waiting_on_time}
 use Rattle.machine.proofs.warps.Warps.withdraw.Goals as goal
@@ -10,7 +10,7 @@ invariant_of-self c =
     let t = c.args.self.now in
     record {
       count = t.count;
-      sound = subst (IsSound t.rows.items) (sym c.remove.ensures)
+      sound = subst (QueueFitsRows t.rows.items) (sym c.remove.ensures)
           (IsSound-queue_without _ _ c.args.warp t.sound);
     }
 

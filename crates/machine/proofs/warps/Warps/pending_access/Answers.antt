@@ -2,7 +2,7 @@
 use Rattle.std.proofs.Common.{ap, sym}
 use Rattle.rules.specs.State.{is_waiting}
 use Rattle.machine.proofs.SoundQueue.{room_of_request, waiting_on_time}
-use Rattle.machine.proofs.warps.Warps.pending.Goals as goal
+use Rattle.machine.proofs.warps.Warps.pending_access.Goals as goal
 
 pub returns-clause-room : goal.returns-clause-room
 returns-clause-room c =

@@ -4,7 +4,7 @@ use Rattle.std.proofs.lemmas.List.{take_all}
 use Rattle.machine.specs.Meaning.{state, policy_of}
 use Rattle.machine.specs.CallParts.{machine_after_turn}
 use Rattle.machine.proofs.Retries.{machine_after_turns-fold}
-use Rattle.machine.proofs.machine.Machine.try_turns.Goals as goal
+use Rattle.machine.proofs.machine.Machine.retry_all_in_turn.Goals as goal
 
 pub returns-clause-after : goal.returns-clause-after
 returns-clause-after g c =

@@ -3,7 +3,7 @@ use Rattle.std.proofs.Common.{sym, ◌∙◌, ⊎_elim}
 use Rattle.machine.specs.Meaning.{state}
 use Rattle.machine.proofs.Retries.{turn_without_request, turn_by_verdict, try_gone, try_going_on}
 use Rattle.machine.proofs.Retries.{try_on_own_line, try_waiting, retried_here}
-use Rattle.machine.proofs.machine.Machine.try_turn.Goals as goal
+use Rattle.machine.proofs.machine.Machine.retry_in_turn.Goals as goal
 
 pub returns-in_default-clause-after : goal.returns-in_default-clause-after
 returns-in_default-clause-after g c =

@@ -2,7 +2,7 @@
 use Rattle.std.proofs.Common.{◌≡◌, take, fold}
 use Rattle.machine.specs.Meaning.{state}
 use Rattle.machine.specs.CallParts.{machine_after_turn}
-use Rattle.machine.proofs.machine.Machine.try_turns.Given as goal
+use Rattle.machine.proofs.machine.Machine.retry_all_in_turn.Given as goal
 
 abbrev pub invariant-loop-warp : goal.invariant-loop-warp
 invariant-loop-warp g l = record {

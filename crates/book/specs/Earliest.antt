@@ -45,7 +45,8 @@ pub record ExactIsNoLater (k : Kind) (both : k.State × Exact) : Type 0 where
   pub grants_too : (call : BookCall) → is_granted k both.0 call ≡ true
       → is_granted exact both.1 call ≡ true
 
--- That holds after any calls of two new books.
+-- After any calls of a new book and a new exact book, the exact book's stamps are no later, and it
+-- grants every call that the other grants.
 abbrev pub NeverEarlierThanExact : Kind → Type 0
 NeverEarlierThanExact k = (s : k.State) → k.Good s → IsNew k s → (calls : List BookCall)
     → ExactIsNoLater k (both_after_calls k (s, exact_new) calls)

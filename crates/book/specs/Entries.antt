@@ -52,7 +52,7 @@ entry_stores e = hold_stores e.hold
 abbrev pub entry_owner : Entry → Option ℕ
 entry_owner e = hold_owner e.hold
 
--- A number of stores made by a warp. No store makes no hold.
+-- The hold of a number of stores by a warp; none for 0 stores.
 abbrev pub hold_of : ℕ → ℕ → Option Hold
 hold_of warp zero = None
 hold_of warp (suc n) = Some (record { warp = warp; stores = suc n; some = zero-lt-suc n })
@@ -67,9 +67,9 @@ abbrev pub entry_with_stores : Entry → ℕ → Entry
 entry_with_stores e stores =
     record { stamps = e.stamps; hold = hold_of (unwrap_or (entry_owner e) 0) stores }
 
--- A line after each call. A read raises its read mark. A reservation gives it to the time's warp,
--- and a transaction whose stamp is not later comes too late from then on. An add counts one more
--- store. A release keeps the stamps.
+-- A line after each call. A read raises its read mark. A reservation makes the time's warp the
+-- owner and raises the write stamp past the time's stamp. An add counts one more store. A release
+-- keeps the stamps.
 abbrev pub entry_after_read : Entry → Time → Entry
 entry_after_read e t = record { stamps = later_stamps e.stamps (read_stamps t); hold = e.hold }
 

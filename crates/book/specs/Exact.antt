@@ -15,11 +15,11 @@ pub record Exact : Type 0 where
 abbrev pub exact_of : List Entry → ℕ → Exact
 exact_of entries latest = record { entries = entries; latest = latest }
 
--- A sound state has an entry for each line,
+-- A sound state has an entry for each line.
 abbrev pub HasAllLines : List Entry → Type 0
 HasAllLines entries = length entries ≡ line_limit
 
--- no write stamp and no read mark later than the latest stamp,
+-- In a sound state, no write stamp and no read mark is later than the latest stamp.
 abbrev pub EntriesWrittenUpTo : List Entry → ℕ → Type 0
 EntriesWrittenUpTo entries latest = (n : ℕ)
     → (get_or entries n untouched_entry).stamps.write ≤ latest
@@ -27,13 +27,13 @@ EntriesWrittenUpTo entries latest = (n : ℕ)
 abbrev pub EntriesReadUpTo : List Entry → ℕ → Type 0
 EntriesReadUpTo entries latest = (n : ℕ) → (get_or entries n untouched_entry).stamps.read.0 ≤ latest
 
--- and a write stamp above 0 for every line that stores hold.
+-- In a sound state, every line that stores hold has a write stamp above 0.
 abbrev pub HeldEntriesStamped : List Entry → Type 0
 HeldEntriesStamped entries =
     (n : ℕ) → 0 < entry_stores (get_or entries n untouched_entry)
     → 0 < (get_or entries n untouched_entry).stamps.write
 
--- All of it together.
+-- A state is sound if all of these hold.
 pub record IsSound (s : Exact) : Type 0 where
   pub whole : HasAllLines s.entries
   pub written : EntriesWrittenUpTo s.entries s.latest
@@ -47,7 +47,7 @@ FitsWithin latest e =
     × (0 < entry_stores e → 0 < e.stamps.write)
 
 module _ (s : Exact) where
-  -- The entry of a line. A line past the last is as one that no call has named.
+  -- The entry of a line. A line past the last has the entry of a line that no call has named.
   abbrev pub entry_at : ℕ → Entry
   entry_at line = slice_index_or s.entries line untouched_entry
 

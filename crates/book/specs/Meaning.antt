@@ -43,22 +43,24 @@ module _ (k : Kind) (s : k.State) where
   abbrev pub reserved_count : ℕ
   reserved_count = count_below is_reserved line_limit
 
-  -- A read is granted at a line that exists and a valid time,
+  -- A read is granted if the line exists and the time is valid.
   abbrev pub can_note : ℕ → Time → Bool
   can_note line t = nat_lt line line_limit && is_valid_time t
 
-  -- a reservation besides only if the line is unreserved and there is a slot for it,
+  -- A reservation also needs an unreserved line with a slot.
   abbrev pub can_reserve : ℕ → Time → Bool
   can_reserve line t = can_note line t && (not (is_reserved line) && k.has_slot s line)
 
-  -- one more store of a reserved line below the maximum number of stores,
+  -- One more store is granted if the line exists, and is reserved with fewer stores than the
+  -- maximum number.
   abbrev pub can_add : ℕ → Bool
   can_add line = nat_lt line line_limit && (is_reserved line && nat_lt (k.stores s line) log_limit)
 
-  -- and the release of any line that exists. Every other call is refused, and changes nothing.
+  -- A release is granted if the line exists.
   abbrev pub can_release : ℕ → Bool
   can_release line = nat_lt line line_limit
 
+  -- The state after a call. A refused call changes nothing.
   abbrev pub state_after_note : ℕ → Time → k.State
   state_after_note line t = cond (can_note line t) (k.note s line t) s
 

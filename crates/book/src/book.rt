@@ -26,11 +26,11 @@ pub trait Book {
     // The state of a value.
     ghost model: { Self → kind.State };
 
-    /// A transaction with a smaller stamp comes too late to read or write the line.
+    /// The write stamp: a transaction with a smaller stamp is too late to load or store the line.
     fn write_stamp(&self, line: u32) -> u32
         ensures { result ≡ kind.write_stamp (model self.now) line };
 
-    /// A transaction at an earlier time comes too late to write the line.
+    /// The read mark: a transaction with an earlier time is too late to store to the line.
     fn read_mark(&self, line: u32) -> (u32, u32)
         ensures { result ≡ kind.read_mark (model self.now) line };
 
@@ -61,7 +61,7 @@ pub trait Book {
         }
     }
 
-    /// No write stamp and no read mark in the book is later than this stamp.
+    /// The latest stamp: no stamp in the book is later.
     fn latest(&self) -> u32
         ensures { result ≡ kind.latest (model self.now) };
 

@@ -71,7 +71,7 @@ impl Stamps {
 impl Hold {
     ghost use Rattle.book.specs.Entries.{hold_of};
 
-    /// This number of stores, made by a warp. No store makes no hold.
+    /// The hold of this many stores by a warp; none for 0 stores.
     fn of(warp: u32, stores: u32) -> Option<Hold>
         ensures { result ≡ hold_of warp stores }
     {
@@ -134,8 +134,8 @@ impl Entry {
         }
     }
 
-    /// The entry with another number of stores, of the same owner. Without an owner they are warp
-    /// 0's.
+    /// The entry with another number of stores, of the same owner. If the line has no owner, warp 0
+    /// becomes it, unless the number is 0.
     pub fn with_stores(self, stores: u32) -> Entry
         ensures { result ≡ entry_with_stores self stores }
     {

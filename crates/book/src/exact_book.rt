@@ -34,7 +34,7 @@ impl ExactBook {
         ExactBook { entries, latest: 0 }
     }
 
-    /// The entry of a line. A line past the last is as one that no call has named.
+    /// The entry of a line. A line past the last has the entry of a line that no call has named.
     fn entry(&self, line: u32) -> Entry
         ensures { result ≡ entry_at (exact_state self.now) line }
     {

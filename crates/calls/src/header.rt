@@ -27,7 +27,8 @@ pub(crate) const WARPS: usize = limits::WARPS as usize;
 /// The maximum number of lines.
 pub(crate) const LINES: usize = limits::LINES as usize;
 
-/// The book and the sizes: the sizes decide where everything else stands.
+/// The book, and the numbers of warps and lines, which fix where the line values and the rows
+/// begin.
 #[derive(Clone, Copy)]
 pub struct Shape {
     pub book: BookKind,

@@ -38,8 +38,7 @@ pub fn read(heap: Global, bytes: &[u8]) -> Result<CallsFile, ReadError>
     })
 }
 
-/// The number of first bytes that decide what is read of a file, however long the file is: one more
-/// than the longest file has.
+/// How many bytes to read: no byte past them matters. One more than the longest file has.
 pub fn enough_bytes() -> usize
     ensures tells { Suffices result }
     ensures one_more { result ≡ longest_file + 1 }

@@ -60,8 +60,8 @@ pub(crate) fn read_rows(heap: Global, bytes: &[u8], start: usize) -> Result<Rows
     Ok(RowsRead { calls, fault })
 }
 
-// What is wrong at the place where the whole rows end: bytes that follow are a row that is cut
-// short, or one row too many.
+// The fault after the rows that are read, if bytes follow them: a row cut short, or one row too
+// many.
 fn after_rows(bytes: &[u8], place: usize, rows: usize) -> Option<Fault>
     ensures { result ≡ file_fault_unless (nat_le (length bytes.now) place)
         (cond (nat_lt rows row_limit) CutShort TooManyRows) place }

@@ -100,8 +100,8 @@ filter_after_eviction filter slot line =
     filter_raised_for filter (slot_entry slot).stamps line (slot_line slot)
 
 module _ (s : Condensed) where
-  -- The entry of a line, by the slot that it is in. A line past the last is as one that no call has
-  -- named.
+  -- The entry of a line, by the slot that it is in. A line past the last has the entry of a line
+  -- that no call has named.
   abbrev pub entry_by_slot : ℕ → Option ℕ → Entry
   entry_by_slot line inside =
       cond (nat_lt line line_limit) (entry_from s.slots s.filter line inside) untouched_entry
@@ -142,7 +142,7 @@ module _ (s : Condensed) (line : ℕ) where
   after_note t (Some index) =
       with_slot s line index (entry_after_read (slot_entry (get_or s.slots index empty_slot)) t) t.0
 
-  -- A reserved line starts in its slot from its entry before the call.
+  -- A reservation: the slot's entry is made from the line's entry before the call.
   abbrev pub after_reserve : Time → Option ℕ → Condensed
   after_reserve t None = s
   after_reserve t (Some index) =
@@ -159,11 +159,11 @@ module _ (s : Condensed) (line : ℕ) where
 abbrev pub IsBounded : Stamps → ℕ → Type 0
 IsBounded stamps latest = (stamps.write ≤ latest) × (stamps.read.0 ≤ latest)
 
--- A sound state has sixteen slots and four ways of 64 entries;
+-- A sound state has sixteen slots, and its filter has four ways of 64 entries.
 abbrev pub HasSixteenSlots : List Slot → Type 0
 HasSixteenSlots slots = length slots ≡ 16
 
--- no line is in two slots, and each line in a slot is below the limit;
+-- In a sound state, no line is in two slots.
 abbrev pub HoldDistinctLines : List Slot → Type 0
 HoldDistinctLines slots =
     (i j : ℕ)
@@ -171,11 +171,12 @@ HoldDistinctLines slots =
     ≡ true
     → i ≡ j
 
+-- In a sound state, each line in a slot is below the limit.
 abbrev pub HoldNumberedLines : List Slot → Type 0
 HoldNumberedLines slots = (i n : ℕ) → slot_holds (slice_index_or slots i empty_slot) n ≡ true
     → n < line_limit
 
--- no stamp in a slot or in the filter is later than the latest stamp;
+-- In a sound state, no stamp in a slot or in the filter is later than the latest stamp.
 abbrev pub SlotsWrittenUpTo : List Slot → ℕ → Type 0
 SlotsWrittenUpTo slots latest = (i : ℕ)
     → (slot_entry (get_or slots i empty_slot)).stamps.write ≤ latest
@@ -190,13 +191,13 @@ FilterWrittenUpTo filter latest = (way i : ℕ) → (stamps_at filter way i).wri
 abbrev pub FilterReadUpTo : List (List Stamps) → ℕ → Type 0
 FilterReadUpTo filter latest = (way i : ℕ) → (stamps_at filter way i).read.0 ≤ latest
 
--- and every reserved slot has a write stamp above 0.
+-- In a sound state, every reserved slot has a write stamp above 0.
 abbrev pub SlotsStamped : List Slot → Type 0
 SlotsStamped slots =
     (i : ℕ) → 0 < entry_stores (slot_entry (get_or slots i empty_slot))
     → 0 < (slot_entry (get_or slots i empty_slot)).stamps.write
 
--- All of it together.
+-- A state is sound if all of these hold.
 pub record IsSound (s : Condensed) : Type 0 where
   pub sixteen : HasSixteenSlots s.slots
   pub four_ways : FourWays s.filter

@@ -3,7 +3,7 @@ use Rattle.std.specs.Prelude.{◌≡◌, ℕ, false}
 use Rattle.book.specs.Meaning.{is_reserved, reserved_count}
 use Rattle.condensed.specs.Condensed.{Condensed, IsSound, condensed}
 
--- That holds in every sound state.
+-- In every sound state in which sixteen lines are reserved, no other line has a slot.
 abbrev pub NoSlotForASeventeenth : Type 0
 NoSlotForASeventeenth =
     (s : Condensed) → IsSound s → reserved_count condensed s ≡ 16 → (n : ℕ)

@@ -28,7 +28,7 @@ impl Model for Filter {
 }
 
 /// The four entries of a line, as an index in each way.
-// The form is fixed (docs/DECISIONS.md): one array by value.
+// Keep this form: docs/DECISIONS.md.
 pub fn indices(line: u32) -> [usize; 4]
     ensures value { result ≡ indices_of line }
     ensures inside { AreInside result }
@@ -57,7 +57,7 @@ fn index(numbers: &[usize; 12], line: u32) -> usize
 }
 
 impl Filter {
-    /// A filter that has no stamp of any line.
+    /// A filter without stamps.
     pub fn new() -> Filter
         ensures { result ≡ replicate 4 (replicate 64 no_stamps) }
     {
@@ -77,7 +77,7 @@ impl Filter {
         low.least(high)
     }
 
-    /// Raises each of four entries to `stamps` if it is earlier.
+    /// Raises each of the four entries to `stamps`, where it is earlier.
     #[tactic(auto, unfolding(crate::specs::Filter::filter_raised_to))]
     pub(crate) fn raise(&mut self, four: [usize; 4], stamps: Stamps)
         requires { AreInside four }
@@ -90,8 +90,8 @@ impl Filter {
         self.raise_at(3, d, stamps);
     }
 
-    /// Keeps the stamps of the line in a slot before `line` takes the slot. An empty slot, or one
-    /// that `line` is in already, changes nothing.
+    /// When `line` takes a slot, raises the filter to the stamps of the line evicted from it. An
+    /// empty slot, or one that `line` is in already, changes nothing.
     pub(crate) fn evict(&mut self, slot: Slot, line: u32)
         ensures { self.new ≡ filter_after_eviction self.old slot line }
     {

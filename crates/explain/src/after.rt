@@ -30,7 +30,7 @@ pub struct Wait {
 /// What a call leaves.
 #[derive(Drop)]
 pub struct After {
-    /// Those of the requests waiting before the call that are settled now.
+    /// The requests that waited before the call and are settled now.
     pub settled: Vec<Settled>,
     /// The requests that wait now, in the order of their warps' numbers.
     pub waits: Vec<Wait>,
@@ -51,7 +51,7 @@ pub fn facts_after<M: Memory, B: Book>(
     })
 }
 
-// Those of some requests that are settled.
+// The requests that waited before the call and are settled now.
 fn find_settled<M: Memory, B: Book>(
     heap: Global,
     machine: &Machine<M, B>,

@@ -62,7 +62,7 @@ abbrev pub compare_named : List (List ℕ) → Result Action Misuse
 compare_named [] = Err no_listing
 compare_named (word ∷ rest) = compare_from (file_name word) (input_named rest)
 
--- The first word may be an option. Otherwise the words say of which calls the listing is wanted.
+-- The first word may be an option. Otherwise the words say where the calls to list come from.
 abbrev pub action_named : List (List ℕ) → Result Action Misuse
 action_named [] = Ok (list standard_input)
 action_named (word ∷ rest) =

@@ -21,8 +21,8 @@ const RULES_LEVEL: u32 = 1;
 /// The version of Rattle that this repository is proved with, as `rt version` prints it.
 const KIT: &str = "rattle-kit-13f logic dac8208d650f15bf";
 
-/// The bytes that one read asks for. Their room is filled with zeros first; above this size C's
-/// library does that by an instruction that repeats for each byte.
+/// The number of bytes per read. The buffer is zeroed first, and above this size the C library does
+/// that byte by byte.
 const READ_BYTES: usize = 2048;
 
 /// More bytes than any listing has.

@@ -18,8 +18,7 @@ pub fn list(heap: Global, bytes: &[u8]) -> Result<String, AllocError>
     write_text(heap, bytes, &Lister)
 }
 
-/// The number of first bytes of a calls file that decide its listing, however long the file is: one
-/// more than the longest file has.
+/// How many bytes to read: no byte past them matters. One more than the longest file has.
 #[tactic(auto, using(crate::proofs::Fronts::front_listed))]
 pub fn enough_bytes() -> usize
     ensures enough { FrontIsEnough result }

@@ -1,4 +1,4 @@
-//! From the bytes of a calls file to a text about its run, whoever writes that text.
+//! Makes a text about the run of a calls file, by any writer.
 ghost use Rattle.std.specs.Prelude.{◌≡◌, ℕ, List, IfOk, string_bytes};
 ghost use Rattle.machine.specs.Running.{run_of};
 ghost use Rattle.listing.specs.Rows.{bad_row};

@@ -61,7 +61,7 @@ module _ {k : Kind} where
       verdict_with_room (is_full policy.line_room policy.queue_room m.queue line)
       (warp_row_of m w).stamp MustWait
 
-  -- Its step.
+  -- The step by that verdict.
   abbrev pub wait_step : Policy k → MachineState k → ℕ → ℕ → Access → Step k
   wait_step policy m w line access =
       step_by_verdict policy m w line access (wait_verdict policy m w line)

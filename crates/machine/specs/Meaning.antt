@@ -1,4 +1,4 @@
--- What a machine means.
+-- The state of a machine in the rules.
 use Rattle.std.specs.Prelude.{ℕ, List}
 use Rattle.memory.specs.Lines.{Lines}
 use Rattle.book.specs.Meaning.{Kind}

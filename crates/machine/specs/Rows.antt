@@ -12,7 +12,7 @@ abbrev pub warp_row_in : Row → WarpRow
 warp_row_in row =
     record { phase = row.phase; stamp = row.stamp; log = first_entries row.len row.stores }
 
--- What places hold that are not in use.
+-- Fillers of unused places.
 abbrev pub no_store : Store
 no_store = record { line = 0; value = 0; inside = lit< tt }
 

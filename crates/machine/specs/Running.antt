@@ -26,7 +26,7 @@ answers_in events = map (λ (e : Event). e.answer) events
 abbrev pub answers_after : List Event → List (Result Answer Fault) → List (Result Answer Fault)
 answers_after events places = answers_in events ++ drop (length events) places
 
--- The laws, of the run.
+-- The laws for one run.
 abbrev pub AccountsOf : {k : Kind} → Lines → Run k → Type 0
 AccountsOf lines r = AccountsAgree lines (ledger_of r.events) r.machine.lines
 

@@ -1,6 +1,5 @@
--- When the queue fits the rows: a request is of a waiting warp, which has no other request, and a
--- store that waits has
--- room in its warp's log.
+-- When the queue fits the rows: each request belongs to a waiting warp, which has no other request,
+-- and a store that waits has room in its warp's log.
 use Rattle.std.specs.Prelude.{◌≡◌, Bool, true, not, ◌&&◌, List, [], ◌∷◌, is_some, nat_lt}
 use Rattle.std.specs.Prelude.{slice_index_or}
 use Rattle.protocol.specs.Limits.{log_limit}

@@ -55,7 +55,7 @@ impl<M: Memory, B: Book> Machine<M, B> {
         Answer::Gone { cause, next }
     }
 
-    /// Adds a request to the queue. The book learns nothing of it yet.
+    /// Adds a request to the queue. The book is not changed yet.
     fn join_queue(&mut self, request: Request)
         requires open { is_open (warp_row self.old.warps request.warp).phase ≡ true }
         requires room { has_room (warp_row self.old.warps request.warp) request.access ≡ true }

@@ -1,4 +1,4 @@
-//! Lists of lines in which no line stands twice.
+//! Lists of distinct lines.
 ghost use Rattle.std.specs.Prelude.{◌≡◌, ◌<◌, length};
 ghost use Rattle.rules.specs.Lists.{push_new};
 

@@ -64,7 +64,7 @@ impl Log {
     }
 
     /// The log of the first `len` of some stores, if a log can hold that many.
-    // A fixed form (docs/DECISIONS.md): one check of a row's number of stores.
+    // Keep this form: docs/DECISIONS.md.
     pub fn of(len: usize, stores: &[Store; 32]) -> Option<Log>
         ensures { result
             ≡ (if nat_le len log_limit then Some (first_entries len stores.now) else None) }
@@ -108,7 +108,7 @@ impl Log {
     pub fn latest(&self, line: u32) -> Option<u32>
         ensures { result ≡ last_stored self.now line }
     {
-        // A fixed form (docs/DECISIONS.md): a loop over the stored part looks for the latest entry.
+        // Keep this form: docs/DECISIONS.md.
         let mut found = None;
         for store in self.stores() {
             if store.line == line {

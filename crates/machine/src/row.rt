@@ -8,7 +8,7 @@ use crate::log::{Log, Store};
 use rules::Phase;
 
 /// What a warp is doing, its stamp, and its log as plain numbers.
-// A fixed form (docs/DECISIONS.md): a plain row, with an array of stores and their number.
+// Keep this form: docs/DECISIONS.md.
 #[derive(Clone, Copy)]
 pub struct Row {
     pub(crate) phase: Phase,

@@ -39,13 +39,14 @@ impl<M: Memory, B: Book> Machine<M, B> {
 }
 
 /// Makes a machine and executes as many calls as there are places for answers. It allocates
-/// nothing. Machine and answers are those of the rules, and the places behind the answers keep what
-/// they had. With every memory and every book:
+/// nothing. Machine and answers are as the rules say; the places after the answers are unchanged.
+/// With every memory and every book:
 ///
 /// - the account of the run is that of its committed transactions executed one at a time, exactly
 ///   in the orders that keep logical time between conflicting transactions, and there is such an
 ///   order;
-/// - from every waiting warp, stamps fall from holder to holder until one does not wait;
+/// - there is no deadlock: holders with ever smaller stamps lead from every waiting warp to one
+///   that does not wait;
 /// - the rows, the queue and the book agree with the account;
 /// - a fetch returns what joined the account when the request was settled;
 /// - what the memory borrows stays borrowed, and what is in none of its lines stays as it was.
@@ -86,7 +87,8 @@ pub fn run<M: Memory, B: Book>(
     Ran { machine, shape }
 }
 
-/// The same for all calls, with the answers in a vector. It fails only if memory runs out.
+/// Like `run`, but makes all calls and returns the answers in a vector. It fails only if memory
+/// runs out.
 pub fn run_to_vec<M: Memory + Drop, B: Book + Drop>(
     heap: Global,
     memory: M,

@@ -158,7 +158,7 @@ impl<M: Memory, B: Book> Machine<M, B> {
         }
     }
 
-    /// The same, without the cost of an order if no request waits for the line.
+    /// Retries the requests that wait for a line. If none waits, no order is computed.
     pub(crate) fn retry_line(&mut self, line: u32)
         requires { line < line_limit }
         ensures after { state M.at B.kind B.model self.new

@@ -18,8 +18,8 @@ use arrayvec::ArrayVec;
 use protocol::Outcome;
 use rules::{Access, Phase, Request};
 
-/// A row for each warp, and the requests that wait. A request is of a waiting warp, and a store
-/// that waits has room in its warp's log.
+/// A row for each warp, and the requests that wait. Each request belongs to a waiting warp, and a
+/// store that waits has room in its warp's log.
 #[derive(Drop)]
 pub struct Warps {
     pub(crate) rows: ArrayVec<Row, 32>,

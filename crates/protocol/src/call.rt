@@ -42,7 +42,7 @@ impl Op {
         }
     }
 
-    // The form is fixed (docs/DECISIONS.md): a match on char literals.
+    // Keep this form: docs/DECISIONS.md.
     /// The operation that a letter stands for. Only loads use the line, and only stores use the
     /// line and the value.
     pub fn named(letter: char, line: u32, value: u32) -> Option<Op>

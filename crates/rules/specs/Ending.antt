@@ -65,8 +65,8 @@ module _ {k : Kind} where
       let served = served_on_free_line st.machine w line access in
       with_settled st served.machine w line access served.outcome
 
-  -- One warp's turn at a line, given what it waits to do there. It is passed over if that is
-  -- nothing.
+  -- One warp's turn at a line, given what it waits to do there. A warp that waits for nothing there
+  -- is skipped.
   unfoldable pub after_turn_with : AfterRetries k → ℕ → ℕ → Option Access → AfterRetries k
   after_turn_with st w line None = st
   after_turn_with st w line (Some access) =

@@ -1,5 +1,4 @@
--- Small runs over the exact book, which show that the accounts and the laws tell a right machine
--- from a wrong one.
+-- The laws reject wrong machines, by example: small runs over the exact book.
 use Rattle.std.specs.Prelude.{◌≡◌, ℕ, true, List, [], ◌∷◌, map, length, fold}
 use Rattle.protocol.specs.declared.call.Call.{Call}
 use Rattle.memory.specs.Lines.{Lines, word_lines}
@@ -39,8 +38,7 @@ abbrev pub sample_commits : Sample → List Transaction
 sample_commits s = (sample_ledger s).committed
 
 -- Two transactions, between an initial and a final memory, conflict. The first is earlier in
--- logical
--- time, and the accounts are equal only if it is executed first.
+-- logical time, and the accounts are equal only if it is executed first.
 pub record TransactionsAgreeInOneOrder (initial : Lines) (txs : List Transaction) (final : Lines)
     (a b : ℕ) : Type 0 where
   pub conflict : Conflict txs a b
@@ -48,7 +46,7 @@ pub record TransactionsAgreeInOneOrder (initial : Lines) (txs : List Transaction
   pub agrees : EqualAccounts 2 (account_of txs final) (serial_account initial txs (a ∷ b ∷ []))
   pub differs : EqualAccounts 2 (account_of txs final) (serial_account initial txs (b ∷ a ∷ [])) → ⊥
 
--- So it is with the two transactions that a run commits.
+-- This holds for the two transactions that a run commits.
 pub record RunAgreesInOneOrder (s : Sample) (a b : ℕ) : Type 0 where
   pub commits_two : length (sample_commits s) ≡ 2
   pub apart : TransactionsAgreeInOneOrder (word_lines s.values) (sample_commits s)

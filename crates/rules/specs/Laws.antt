@@ -32,8 +32,8 @@ use Rattle.rules.specs.Account.{account_of, serial_account, EachOnce, EqualAccou
 use Rattle.rules.specs.LogicalTime.{IsInLogicalOrder}
 
 -- Serializability in timestamp order. The committed transactions, executed alone in some order,
--- give the machine's account exactly if of every two that conflict the earlier in logical time
--- comes first in that order.
+-- give the machine's account exactly if the order puts first the logically earlier of every two
+-- that conflict.
 abbrev pub AccountsAgree : Lines → Ledger → Lines → Type 0
 AccountsAgree initial l final =
     let txs = l.committed in
@@ -86,7 +86,7 @@ pub record FetchReturns (before : List Event) (w : ℕ) (answer : Answer) : Type
   pub unchanged :
       (ledger_of before).current w ≡ (ledger_of (earlier ++ settling_event ∷ [])).current w
 
--- So it is with every fetch that is neither refused nor answered with wait.
+-- This holds for every fetch that is neither refused nor answered with wait.
 abbrev pub FetchesReturn : List Event → Type 0
 FetchesReturn events =
     (before : List Event) (e : Event) (after : List Event) → events ≡ before ++ e ∷ after

@@ -1,5 +1,4 @@
--- What there is: warps with their logs, the queue of waiting requests, and the machine, over any
--- memory and any version book.
+-- The parts of the machine, and what they hold.
 use Rattle.std.specs.Prelude.{ℕ, Bool, true, false, List, [], ◌∷◌, ◌++◌, slice_index_or, slice_set}
 use Rattle.protocol.specs.declared.answer.Outcome.{Outcome}
 use Rattle.memory.specs.Lines.{Lines}

@@ -73,9 +73,9 @@ pub fn worked_runs_stand()
     ensures { WorkedRunsStand }
 {}
 
-/// The laws tell a right machine from a wrong one. In each small run timestamp order gives the
-/// run's account and the other order does not. A lost update is explained by no order, and a
-/// machine that takes an aborted transaction's next stamp too early breaks the law of waits.
+/// The laws reject wrong machines, by example. In each small run timestamp order gives the run's
+/// account and the other order does not. A lost update is explained by no order, and a machine that
+/// takes an aborted transaction's next stamp too early breaks the law of waits.
 pub fn examples_stand()
     ensures writers { TwoWriters }
     ensures reader { WriterThenReader }

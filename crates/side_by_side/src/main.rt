@@ -5,9 +5,8 @@ use book::{Book, BookCall, ExactBook, LineState, make_both};
 use condensed::CondensedBook;
 use std::io;
 
-/// Reads whose marks the condensed book gives to line 5 too: each of these lines shares an entry of
-/// the filter with line 5, and the entry of a line that was not read has no mark. So only after the
-/// last read does line 5 have one: the earliest of the four.
+/// Each of these lines shares one of line 5's four filter entries. Line 5's mark is the earliest of
+/// the four, so it has none before the last read.
 const READS: [(u32, (u32, u32)); 4] = [(70, (9, 1)), (125, (7, 2)), (81, (8, 0)), (122, (7, 1))];
 
 fn main(rt: HostRuntime) -> io::Result<()> {
@@ -25,8 +24,8 @@ fn main(rt: HostRuntime) -> io::Result<()> {
     fill_slots(&rt, &mut books)
 }
 
-// Sixteen lines take all slots, and the last takes that of line 5, which the filter stands for from
-// then on. A seventeenth line gets a slot only after a release.
+// Sixteen lines take all slots, and the last evicts line 5, whose stamps the filter keeps. A
+// seventeenth line gets a slot only after a release.
 fn fill_slots(rt: &impl Print, books: &mut Books) -> io::Result<()> {
     for line in 1000..1016 {
         let time = (1, 0);

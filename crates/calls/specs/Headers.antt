@@ -23,5 +23,5 @@ pub record HasShape (bytes : List ℕ) (shape : Shape) : Type 0 where
   pub version : nat_eq (two_bytes bytes 3) 1 ≡ true
   pub book : book_named (slice_index bytes 5) ≡ Some shape.book
   pub size : has_sizes bytes ≡ true
-  pub warps : shape.warps ≡ warps bytes
-  pub lines : shape.lines ≡ lines bytes
+  pub warps : shape.warps ≡ warp_count bytes
+  pub lines : shape.lines ≡ line_count bytes

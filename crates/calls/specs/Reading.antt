@@ -8,8 +8,8 @@ use Rattle.calls.specs.Format.{header_fault, book_named, first_stamps, first_val
 -- The file has the content that its bytes say.
 pub record HoldsContent (bytes : List ℕ) (file : CallsFile) : Type 0 where
   pub book : book_named (slice_index bytes 5) ≡ Some file.book
-  pub stamps : vec_items file.stamps ≡ stamps bytes
-  pub values : vec_items file.values ≡ values bytes
+  pub stamps : vec_items file.stamps ≡ first_stamps bytes
+  pub values : vec_items file.values ≡ first_values bytes
   pub calls : vec_items file.calls ≡ (file_rows bytes).calls
   pub fault : file.fault ≡ (file_rows bytes).fault
 

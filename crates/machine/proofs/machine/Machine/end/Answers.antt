@@ -5,8 +5,8 @@ use Rattle.machine.specs.Meaning.{state, policy_of}
 use Rattle.machine.proofs.TransactionEnd.{after_end_is, after_end_without_stores}
 use Rattle.machine.proofs.machine.Machine.end.Goals as goal
 
-pub returns-then-stored-eq0-clause-after : goal.returns-then-stored-eq0-clause-after
-returns-then-stored-eq0-clause-after g c =
+pub returns-then-stored_count-eq0-clause-after : goal.returns-then-stored_count-eq0-clause-after
+returns-then-stored_count-eq0-clause-after g c =
     let m = state g.M.Memory.at g.B.Book.kind g.B.Book.model c.args.self.now in
     after_end_without_stores (policy_of g.B.Book.kind c.args.self.now) m c.args.warp c.args.stamp
     (warp_rows c.make_idle.new.self) (queue_of c.make_idle.new.self)

@@ -10,7 +10,7 @@ returns-then-stored_count-eq0-clause-after g c =
     let m = state g.M.Memory.at g.B.Book.kind g.B.Book.model c.args.self.now in
     after_end_without_stores (policy_of g.B.Book.kind c.args.self.now) m c.args.warp c.args.stamp
     (warp_rows c.make_idle.new.self) (queue_of c.make_idle.new.self)
-    (sym c.stored_count.ensures ∙ c.if-stored-eq0.true)
+    (sym c.stored_count.ensures ∙ c.if-stored_count-eq0.true)
     c.make_idle.ensures.warp_rows c.make_idle.ensures.queue
 
 pub returns-clause-after : goal.returns-clause-after

@@ -104,7 +104,7 @@ fn sixteen_slots(rt: HostRuntime) -> Result<(), Fail> {
     let memory = WordMemory { words: &mut words };
     let (mut machine, _) = Machine::make(memory, CondensedBook::new(), &[7, 3]);
     make_calls(&rt, rt.alloc(), &mut machine, &SIXTEEN_LINES)?;
-    assert!(rt; !machine.line(16).has_slot);
+    assert!(rt; !machine.line_state(16).has_slot);
     make_calls(&rt, rt.alloc(), &mut machine, &NO_SLOT)?;
     assert!(rt; words == [0; 17]);
     Ok(())

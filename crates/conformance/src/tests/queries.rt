@@ -39,7 +39,7 @@ pub fn check_line<M: Memory, B: Book>(
     owner: Option<u32>,
 ) {
     assert!(rt; machine.stores(line) == stores);
-    assert!(rt; machine.line(line).owner == owner);
+    assert!(rt; machine.line_state(line).owner == owner);
 }
 
 /// Checks the request at a place of the queue.
@@ -49,7 +49,7 @@ pub fn check_place<M: Memory, B: Book>(
     n: usize,
     request: Option<Waiting>,
 ) {
-    assert!(rt; waiting(machine.place(n)) == request);
+    assert!(rt; waiting(machine.request_at(n)) == request);
 }
 
 /// Checks a warp's waiting request.
@@ -109,8 +109,8 @@ fn check_lines<M: Memory, B: Book>(rt: &impl Abort, machine: &Machine<M, B>) {
     assert!(rt; machine.value(2) == Err(lacking));
     check_line(rt, machine, 0, 0, None);
     check_line(rt, machine, 1, 2, Some(0));
-    assert!(rt; machine.line(0) == line_state(0, (20, 0), None));
-    assert!(rt; machine.line(1) == line_state(21, (0, 0), Some(0)));
+    assert!(rt; machine.line_state(0) == line_state(0, (20, 0), None));
+    assert!(rt; machine.line_state(1) == line_state(21, (0, 0), Some(0)));
     assert!(rt; machine.latest() == 21);
 }
 
@@ -120,7 +120,7 @@ fn check_after_commit<M: Memory, B: Book>(rt: &impl Abort, machine: &Machine<M, 
     check_warp(rt, machine, 0, 20, 0);
     check_line(rt, machine, 1, 0, None);
     check_place(rt, machine, 0, None);
-    assert!(rt; machine.line(1) == line_state(21, (30, 2), None));
+    assert!(rt; machine.line_state(1) == line_state(21, (30, 2), None));
     assert!(rt; machine.latest() == 30);
     assert!(rt; machine.warps().stamp(2) == 30);
     assert!(rt; machine.memory().read(1) == Ok(61));

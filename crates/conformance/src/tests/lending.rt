@@ -1,7 +1,7 @@
 //! What a run leaves in the slices that a caller lends it: the answers in their places, and the
 //! memory's new lines.
 ghost use Rattle.std.specs.Prelude.{◌≡◌, ◌∷◌};
-ghost use Rattle.harriersofa.specs.Lines.{word_lines, byte_lines, odd_bytes};
+ghost use Rattle.harriersofa.specs.Lines.{word_lines, byte_lines, leftover_bytes};
 ghost use Rattle.harriersofa.specs.Exact.{exact, exact_new};
 ghost use Rattle.harriersofa.specs.Running.{run_of, calls_made};
 
@@ -84,7 +84,7 @@ fn runs_over_bytes(
     ensures lines { byte_lines bytes.new
         ≡ (run_of exact (byte_lines bytes.old) exact_new stamps.now
         (calls_made calls.now replies.old)).machine.lines }
-    ensures odd { odd_bytes bytes.new ≡ odd_bytes bytes.old }
+    ensures odd { leftover_bytes bytes.new ≡ leftover_bytes bytes.old }
 {
     let mut memory = ByteMemory { bytes };
     runs_over(&mut memory, stamps, calls, replies)

@@ -1,11 +1,13 @@
 #!/usr/bin/env python3
-"""Throws random and damaged files at the program golden: python3 tools/fuzz.py [COUNT [SEED]]
+"""Runs the program golden on random and damaged files: python3 tools/fuzz.py [COUNT [SEED]]
 
-Each file's listing has to be the one of tools/model.py, with status 0 and nothing on standard error. Then what else the program
-can be asked, by words after its name, and wrong words. Then bad weather: standard output closed or full, standard input closed
-or a folder, little memory; there it must end with status 1, one sentence on standard error and no listing, or with status 0
-and the whole listing. The files follow from the seed alone; no network is used, every run has ten seconds, and the first failure
-ends the script with status 1 and leaves its file in /tmp.
+1. For each file, golden must print the same listing as tools/model.py, with status 0 and nothing on standard error.
+2. The other commands (a file by name, --compare, --explain, --help, --version) must work, and wrong arguments must be refused.
+3. With standard output closed or full, standard input closed or a folder, or too little memory, golden must end with status 1,
+   one sentence on standard error and no listing, or with status 0 and the whole listing.
+
+The seed determines the files. Each run may take ten seconds. The first failure ends the script with status 1 and leaves the
+file in /tmp.
 """
 
 import os
@@ -24,18 +26,18 @@ STAMPS = (0, 0, 0, 1, 2, 5, 20, 999_999_999, 1_000_000_000)
 
 
 def rows(rng, warps, lines, count):
-    """Calls of a few warps on a few lines, so that they meet; now and then of one that is not there."""
-    said = []
+    """Calls of a few warps on a few lines, so that they conflict. A few calls name a warp or a line that does not exist."""
+    calls = []
     for _ in range(count):
         letter = rng.choice(b"BBLLLLSSSSSCDF")
         warp = rng.randrange(warps) if rng.random() < 0.98 else rng.randrange(256)
         line = rng.randrange(lines) if rng.random() < 0.98 else rng.randrange(65536)
-        said.append(struct.pack(">BBHI", letter, warp, line, rng.getrandbits(32)))
-    return b"".join(said)
+        calls.append(struct.pack(">BBHI", letter, warp, line, rng.getrandbits(32)))
+    return b"".join(calls)
 
 
 def sound_file(rng, longest=60):
-    """A file that is not damaged, but that a first stamp may be late."""
+    """A file without damage, except that a first stamp may be past the end of the clock."""
     warps = rng.choice((1, 2, 3, 8, 32))
     lines = rng.choice((1, 2, 3, 24, 40))
     stamps = [rng.choice(STAMPS) for _ in range(warps)]
@@ -60,7 +62,7 @@ def cut(rng):
     return data[: rng.randrange(len(data) + 1)]
 
 
-def spoilt(rng):
+def spoiled(rng):
     data = bytearray(sound_file(rng))
     for _ in range(rng.randrange(1, 4)):
         data[rng.randrange(len(data))] = rng.getrandbits(8)
@@ -76,23 +78,23 @@ def long_file(rng):
 
 
 def too_long(rng):
-    """Every warp, line and row that a file may have, and a little more or less."""
+    """The maximum number of warps and lines, about the maximum number of rows, and a few random bytes."""
     head = b"GTM\x00\x01" + rng.choice((b"E", b"C")) + struct.pack(">BH", 32, LINES) + bytes(4 * (32 + LINES))
     return head + rows(rng, 32, rng.choice((8, LINES)), ROWS + rng.choice((-1, 0, 1))) + noise(rng)[: rng.randrange(9)]
 
 
 def longest(more):
-    """The longest file, by so many bytes longer or, below nought, shorter."""
+    """The longest file, with `more` bytes added or, if `more` is negative, removed."""
     head = b"GTM\x00\x01E" + struct.pack(">BH", 32, LINES) + bytes(4 * (32 + LINES))
     data = head + (b"B" + bytes(7)) * (ROWS + 1)
     return data[: len(head) + 8 * ROWS + more]
 
 
-MAKERS = [sound_file] * 6 + [noise, marked_noise, cut, cut, spoilt, spoilt, spoilt, lengthened]
+MAKERS = [sound_file] * 6 + [noise, marked_noise, cut, cut, spoiled, spoiled, spoiled, lengthened]
 
 
 def made(seed, number):
-    """The file of a number: short ones, every 100th longer, every 2,000th of the full size."""
+    """The file with a number. Most are short; every 100th is longer, and every 2,000th has the full size."""
     rng = random.Random(seed * 1_000_003 + number)
     if number % 2000 == 1999:
         return too_long(rng)
@@ -131,8 +133,8 @@ def one_sentence(ran):
     return ran.returncode == 1 and text.startswith("golden: ") and text.count("\n") == 1 and text.endswith("\n")
 
 
-def bad_weather(seed):
-    """Standard streams that fail, by the shell; then less and less memory."""
+def failing_system(seed):
+    """Runs the program with standard streams that fail, then with less and less memory."""
     data = made(seed, 1999)
     place = f"/tmp/fuzz-{os.getpid()}.gtm"
     with open(place, "wb") as file:
@@ -153,15 +155,15 @@ def bad_weather(seed):
         if not one_sentence(ran) or ran.stdout:
             fail(f"with {kilobytes} KiB", data, ran)
         short += 1
-    print(f"bad weather: 4 streams refused, {short} runs wanted memory and said so")
+    print(f"4 failing streams and {short} runs out of memory were reported as they must be")
 
 
-def asked(*words):
+def run_with(*words):
     return subprocess.run([PROGRAM, *words], stdin=subprocess.DEVNULL, capture_output=True, timeout=10)
 
 
-def other_words(seed):
-    """The program with words after its name: a file, a comparison, an explanation, and words that ask for nothing."""
+def other_commands(seed):
+    """Runs the program with arguments: a file, a comparison, an explanation, --help, --version and wrong arguments."""
     data = made(seed, 99)
     rows = listing(data).encode()
     with tempfile.TemporaryDirectory() as room:
@@ -169,22 +171,22 @@ def other_words(seed):
         for place, text in ((calls, data), (ours, rows), (theirs, b"x" + rows)):
             with open(place, "wb") as file:
                 file.write(text)
-        told = asked("--explain", calls)
-        shown = b"".join(line for line in told.stdout.splitlines(True) if not line.startswith(b" "))
-        if asked(calls).stdout != rows or told.stdout == rows or shown != rows or told.returncode:
-            fail("a file that is named, or its explanation", data, told)
+        ran = run_with("--explain", calls)
+        shown = b"".join(line for line in ran.stdout.splitlines(True) if not line.startswith(b" "))
+        if run_with(calls).stdout != rows or ran.stdout == rows or shown != rows or ran.returncode:
+            fail("a file that is named, or its explanation", data, ran)
         for place, status, first in ((ours, 0, b"match: "), (theirs, 1, b"row 1 differs\n")):
-            told = asked("--compare", place, calls)
-            if told.returncode != status or not told.stdout.startswith(first) or told.stderr:
-                fail("a comparison", data, told)
+            ran = run_with("--compare", place, calls)
+            if ran.returncode != status or not ran.stdout.startswith(first) or ran.stderr:
+                fail("a comparison", data, ran)
         none = f"{room}/none"
         for words in (["--help", calls], ["--compare"], ["--compare", "-", calls], ["-x"], [calls, calls], [room], [none]):
-            told = asked(*words)
-            if not one_sentence(told) or told.stdout:
-                fail(f"the words {words}", data, told)
-    if any(it.returncode or it.stderr or not it.stdout for it in (asked("--help"), asked("--version"))):
+            ran = run_with(*words)
+            if not one_sentence(ran) or ran.stdout:
+                fail(f"the arguments {words}", data, ran)
+    if any(it.returncode or it.stderr or not it.stdout for it in (run_with("--help"), run_with("--version"))):
         fail("--help or --version", data)
-    print("a file by its name, its explanation and two comparisons are as they must be, and 7 wrong words are refused")
+    print("a file by name, its explanation and two comparisons are right, and 7 wrong command lines are refused")
 
 
 def main():
@@ -196,9 +198,9 @@ def main():
         check(made(seed, number))
     for more in (-1, 0, 1, 2):
         check(longest(more))
-    print(f"{count} files of seed {seed}, and those near the longest: every listing is the model's")
-    other_words(seed)
-    bad_weather(seed)
+    print(f"{count} files of seed {seed} and 4 of about the maximum length: every listing is the model's")
+    other_commands(seed)
+    failing_system(seed)
 
 
 main()

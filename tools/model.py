@@ -1,7 +1,7 @@
 #!/usr/bin/env python3
-"""The machine again, written plainly from docs/MACHINE.md and docs/FORMATS.md: python3 tools/model.py < calls.gtm
+"""A second, independent implementation of docs/MACHINE.md and docs/FORMATS.md: python3 tools/model.py < calls.gtm
 
-It shares no code with the library, proves nothing, and makes no haste. tools/fuzz.py compares the program with it.
+It shares no code with the library, and is written to be read, not to be fast. tools/fuzz.py compares golden with it.
 """
 
 import struct
@@ -28,7 +28,7 @@ class ExactBook:
     def entry(self, line):
         return self.entries.setdefault(line, [0, (0, 0), 0, None])
 
-    def told(self, line):
+    def line_state(self, line):
         return (*self.entry(line), True)
 
     def note(self, line, time):
@@ -69,7 +69,7 @@ class CondensedBook:
         keys = [(slot[1] if slot else 0, n) for n, slot in enumerate(self.slots) if not slot or slot[3] == 0]
         return min(keys)[1] if keys else None
 
-    def told(self, line):
+    def line_state(self, line):
         slot = self.slot_of(line)
         if slot:
             return (*slot[1:], True)
@@ -90,7 +90,7 @@ class CondensedBook:
     def reserve(self, line, time):
         slot = self.slot_of(line)
         if not slot:
-            written, read = self.told(line)[:2]
+            written, read = self.line_state(line)[:2]
             place = self.place_to_take()
             out = self.slots[place]
             if out:
@@ -177,7 +177,7 @@ class Machine:
 
     def access(self, number, line, value):
         warp = self.warps[number]
-        written, _, _, owner, _ = self.book.told(line)
+        written, _, _, owner, _ = self.book.line_state(line)
         if owner == number:
             if value is None:
                 self.book.note(line, (warp.stamp, number))
@@ -197,9 +197,9 @@ class Machine:
         return self.serve(number, line, value)
 
     def verdict(self, number, line, value):
-        """The access steps from the second on."""
+        """What the access steps after the first decide: a cause and the next stamp, "wait", or None to go on."""
         stamp = self.warps[number].stamp
-        written, read, _, owner, slot = self.book.told(line)
+        written, read, _, owner, slot = self.book.line_state(line)
         if written > stamp:
             return 1, (written if value is None else max(written, read[0])) + 1
         if value is not None and read > (stamp, number):
@@ -241,7 +241,7 @@ class Machine:
 
 
 def header(data):
-    """The book, the stamps, the values and where the rows begin; or what is wrong."""
+    """The book, the first stamps, the values and the place of the rows; or the `bad` row, if the header is damaged."""
     if data[:3] != b"GTM":
         return "bad 11 0"
     if data[3:5] != b"\x00\x01":
@@ -265,10 +265,10 @@ def header(data):
 
 
 def listing(data):
-    said = header(data)
-    if isinstance(said, str):
-        return said + "\n"
-    book, stamps, values, start = said
+    parsed = header(data)
+    if isinstance(parsed, str):
+        return parsed + "\n"
+    book, stamps, values, start = parsed
     machine = Machine(book, stamps, values)
     rows = []
     for n in range(ROWS + 1):

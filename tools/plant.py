@@ -1,15 +1,16 @@
 #!/usr/bin/env python3
-"""Plants bugs, one at a time, and says which are noticed: python3 tools/plant.py [CRATE..]
+"""Plants bugs in the code, one at a time, and says which are caught: python3 tools/plant.py [CRATE..]
 
-The bugs stand in tools/plants/CRATE.txt, with an empty line between two: a line 'bug: NAME', a line 'what: ...', and then as in
-a must-fail edit 'file: src/..', 'old: TEXT', 'new: TEXT', each TEXT one line, the old one standing once in that file. A line
-'same: WHY' says why the program with the bug cannot be told from the right one.
+The bugs of a crate are in tools/plants/CRATE.txt, separated by empty lines. Each has a line 'bug: NAME', a line 'what: ...', and
+then, as in a must-fail edit, 'file: src/..', 'old: TEXT' and 'new: TEXT'. Each TEXT is one line, and the old one occurs exactly
+once in that file. A line 'same: WHY' says why no test could tell the program with the bug from the right one.
 
-The repository is copied to a temporary folder. There each crate's bugs are given to 'rt must-fail' in place of its edits: a bug
-that the checker refuses is noticed. One that it does not refuse is put into the copy and run: the tests of its crate, the crate
-itself where it is a program, then golden on the stored listings and some of the files of tools/fuzz.py, then the tests and the
-programs of the other crates above; a crate above may refuse it there. The rest survived. A line for each bug, a count for each
-crate; status 1 where a bug survived that no 'same:' explains, or could not be tried. The whole takes more than an hour.
+The script copies the repository to a temporary folder, and there gives each crate's bugs to 'rt must-fail' in place of its edits.
+A bug that the checker refuses is caught. A bug that it accepts is put into the copy and run, until something notices: the tests
+of its crate; the crate itself, if it is a program; golden on the stored listings and on some files of tools/fuzz.py; then the
+tests and programs of the other crates that depend on it, where the checker may also refuse it. A bug that nothing notices has
+survived. The script prints a line for each bug and a count for each crate. The status is 1 if a bug without a 'same:' line
+survived, or could not be tried. The whole takes more than an hour.
 """
 
 import os
@@ -36,7 +37,7 @@ class Bug:
         return next((it[len(name) + 2 :] for it in self.lines if it.startswith(f"{name}: ")), None)
 
     def put_into(self, crate):
-        """Applies the bug to a crate's folder, and gives back what its files had."""
+        """Applies the bug in a crate's folder. Returns the old text of each changed file, by its path."""
         path, old, was = None, None, {}
         for line in self.edit.split("\n"):
             word, _, text = line.partition(":")
@@ -67,8 +68,8 @@ def bugs_of(crate):
     return [Bug(crate, block) for block in blocks]
 
 
-def below():
-    """Each crate of the repository with those that it stands on, directly."""
+def dependencies():
+    """Each crate of the repository, with those that it depends on directly."""
     known = {}
     for line in read(os.path.join(HERE, "crates.txt")).splitlines():
         name, colon, rest = line.partition("#")[0].partition(":")
@@ -87,18 +88,18 @@ def rt(folder, *words):
 
 
 def tried(top, crate, bugs):
-    """What 'rt must-fail' says of each bug: whether it is refused (None: it could not be tried), and its words."""
+    """What 'rt must-fail' says of each bug: whether it is refused (None if it could not be tried), and its message."""
     folder = os.path.join(top, "crates", crate, "must-fail")
     shutil.rmtree(folder, ignore_errors=True)
     os.makedirs(folder)
     for bug in bugs:
         write(os.path.join(folder, f"{bug.name}.edit"), bug.edit)
-    status, said = rt(os.path.join(top, "crates", crate), "check")
+    status, output = rt(os.path.join(top, "crates", crate), "check")
     if status:
-        sys.exit(f"plant: {crate} is not proved before anything is planted:\n{said[-2000:]}")
-    _, said = rt(top, "must-fail", crate)
+        sys.exit(f"plant: {crate} is not proved before anything is planted:\n{output[-2000:]}")
+    _, output = rt(top, "must-fail", crate)
     results = {}
-    for name, words in re.findall(rf"must-fail {crate}/(\S+)\.edit: (.*)", said):
+    for name, words in re.findall(rf"must-fail {crate}/(\S+)\.edit: (.*)", output):
         refused = True if words.startswith("refused") else False if words.startswith("NOT REFUSED") else None
         results[name] = refused, words
     shutil.rmtree(folder)
@@ -115,15 +116,15 @@ def stream(folder, name):
 
 
 def built(folder, *words):
-    """Nothing where it went well, and else whether the checker refused it or what failed. A program's own status says nothing."""
-    status, said = rt(folder, *words)
-    if "logic=not-proved" in said or "it is not proved" in said:
+    """Runs rt in a folder. Returns how that catches the bug, or None. A program's own status is ignored."""
+    status, output = rt(folder, *words)
+    if "logic=not-proved" in output or "it is not proved" in output:
         return REFUSED, f"not by its own crate, but when {os.path.basename(folder)} is built"
     return (RUN, f"the tests of {os.path.basename(folder)}") if status and words[0] == "try" else None
 
 
 def program_differs(folder):
-    """Runs a built program where its data lies; whether it writes or ends otherwise than is stored."""
+    """Runs a built program with its data. Returns whether its output or its status differs from the stored one."""
     with tempfile.TemporaryDirectory() as room:
         if os.path.isdir(f"{folder}/data"):
             shutil.copytree(f"{folder}/data", room, dirs_exist_ok=True)
@@ -135,7 +136,7 @@ def program_differs(folder):
 
 
 def listing_differs(top, program):
-    """The first stored listing that the program does not give."""
+    """The name of the first stored listing that the program does not reproduce, or None."""
     data = os.path.join(top, "crates", "conformance", "data")
     for name in read(os.path.join(data, "names")).split():
         with open(f"{data}/{name}.gtm", "rb") as calls, open(f"{data}/{name}.txt", "rb") as wanted:
@@ -146,7 +147,7 @@ def listing_differs(top, program):
 
 
 def golden_differs(top):
-    """How the program golden tells a copy with a bug from the right one, or None; a crate below it may refuse the bug."""
+    """How the program golden catches a bug in the copy, or None. The checker may refuse the bug when golden is built."""
     folder = os.path.join(top, "crates", "golden")
     found, program = built(folder, "run"), os.path.join(folder, "out", "golden")
     name = None if found else listing_differs(top, program)
@@ -158,7 +159,7 @@ def golden_differs(top):
 
 
 def crate_differs(folder):
-    """How a crate's tests, or the run of a program, tell a copy with a bug from the right one, or None."""
+    """How a crate's tests or, for a program, its output catch a bug in the copy, or None."""
     found = built(folder, "try", "--test") if with_tests(folder) else None
     if found or not os.path.isfile(f"{folder}/src/main.rt"):
         return found
@@ -166,7 +167,7 @@ def crate_differs(folder):
 
 
 def run_over(top, crate, known):
-    """How running tells a copy with a bug in a crate from the right program, or None."""
+    """How running the programs and tests catches a bug in a crate, or None."""
     found = crate_differs(os.path.join(top, "crates", crate))
     if not found and stands_on("golden", crate, known):
         found = golden_differs(top)
@@ -175,8 +176,8 @@ def run_over(top, crate, known):
     return found or next((it for it in others if it), None)
 
 
-def verdict(top, bug, told, known):
-    refused, words = told
+def verdict(top, bug, result, known):
+    refused, words = result
     if refused is None:
         return BAD, words
     if refused:
@@ -200,7 +201,7 @@ def plant(top, crate, known):
 
 
 def main():
-    known = below()
+    known = dependencies()
     named = sys.argv[1:] or [name for name in known if os.path.isfile(f"{PLANTS}/{name}.txt")]
     total = {}
     with tempfile.TemporaryDirectory(prefix="plant-") as top:
@@ -210,7 +211,7 @@ def main():
             if os.path.isfile(f"{HERE}/{name}"):
                 shutil.copy(f"{HERE}/{name}", top)
         number = sum(len(bugs_of(crate)) for crate in named)
-        print(f"plants {number} bugs, one at a time, in a copy at {top}, and says what notices each", flush=True)
+        print(f"planting {number} bugs, one at a time, in a copy at {top}", flush=True)
         for crate in named:
             for kind, n in plant(top, crate, known).items():
                 total[kind] = total.get(kind, 0) + n

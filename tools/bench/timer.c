@@ -1,7 +1,7 @@
-/* The mean wall time of two programs, their start and end included: timer RUNS INPUT PROGRAM OTHER
+/* Measures the mean wall time of two programs, start and end included: timer RUNS INPUT PROGRAM OTHER
  *
- * Each program is run RUNS times, in turn, with INPUT on standard input and its output thrown away. Prints the two
- * means in microseconds. A program that cannot be run, or ends with another status than 0, is told, with status 1. */
+ * Runs each program RUNS times, in turn, with INPUT on standard input, and discards the output. Prints the two means in
+ * microseconds. If a program cannot be run or ends with a status other than 0, says so and ends with status 1. */
 #define _POSIX_C_SOURCE 200809L
 #include <fcntl.h>
 #include <spawn.h>
@@ -19,7 +19,7 @@ static double now(void) {
     return (double)time.tv_sec * 1e6 + (double)time.tv_nsec / 1e3;
 }
 
-/* How many microseconds one run takes. */
+/* The microseconds that one run takes. */
 static double time_run(char *program, const char *input) {
     char *words[] = {program, NULL};
     pid_t child;
@@ -31,7 +31,7 @@ static double time_run(char *program, const char *input) {
     double start = now();
     if (posix_spawn(&child, program, &streams, NULL, words, environ) != 0 ||
         waitpid(child, &status, 0) != child || status != 0) {
-        fprintf(stderr, "timer: %s cannot be run, or ends with another status than 0\n", program);
+        fprintf(stderr, "timer: %s cannot be run, or ends with a status other than 0\n", program);
         exit(EXIT_FAILURE);
     }
     double end = now();
@@ -45,7 +45,7 @@ int main(int count, char **words) {
         fprintf(stderr, "timer: timer RUNS INPUT PROGRAM OTHER\n");
         return EXIT_FAILURE;
     }
-    /* The first run of each finds nothing in the caches, and is not counted. */
+    /* The first run of each is not counted: the caches are still cold. */
     double spent[2] = {0, 0};
     for (int run = 0; run <= runs; run++) {
         for (int which = 0; which < 2; which++) {

@@ -1,13 +1,10 @@
 pub mod Time
 pub mod Meaning
-pub mod Counting
 pub mod Entries
 pub mod Grants
 pub mod Exact
-pub mod Pages
+pub mod ExactState
 pub mod Earliest
-pub mod ExactKeeps
-pub mod Slots
-pub mod Order
-pub mod Tables
+pub mod OneSlot
 pub mod Printed
+pub mod Lemmas

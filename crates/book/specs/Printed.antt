@@ -1,15 +1,15 @@
--- Which line a call of a book is about, and how the call prints.
+-- The line that a call of a book is about, and the text of the call.
 use Rattle.std.specs.Prelude.{ℕ, List, ◌++◌, codes}
 use Rattle.std.specs.Fmt.{decimal}
 use Rattle.book.specs.Time.{Time}
 use Rattle.book.specs.declared.call.BookCall.{BookCall}
 use Rattle.book.specs.declared.call.BookCall.TheVariants.{Note, Reserve, Add, Release}
 
-abbrev pub line_called : BookCall → ℕ
-line_called (Note line t) = line
-line_called (Reserve line t) = line
-line_called (Add line) = line
-line_called (Release line) = line
+abbrev pub call_line : BookCall → ℕ
+call_line (Note line t) = line
+call_line (Reserve line t) = line
+call_line (Add line) = line
+call_line (Release line) = line
 
 abbrev pub time_text : Time → List ℕ
 time_text t = codes "(" ++ (decimal t.0 ++ (codes ", " ++ (decimal t.1 ++ codes ")")))

@@ -1,12 +1,13 @@
-//! The calls of a book as values, and how two books get the same ones.
+//! The calls of a book as values, and two books that get the same calls.
 ghost use Rattle.std.specs.Prelude.{◌≡◌, Some};
-ghost use Rattle.book.specs.Grants.{granted};
-ghost use Rattle.book.specs.Earliest.{grants, next, next_both, Earliest};
-ghost use Rattle.book.specs.Pages.{exact_page};
-ghost use Rattle.book.specs.Printed.{line_called, call_text};
+ghost use Rattle.book.specs.Grants.{grant_result};
+ghost use Rattle.book.specs.Earliest.{is_granted, state_after_call, both_after_call};
+ghost use Rattle.book.specs.Earliest.{NeverEarlierThanExact};
+ghost use Rattle.book.specs.ExactState.{exact_state};
+ghost use Rattle.book.specs.Printed.{call_line, call_text};
 
-use crate::exact::ExactBook;
-use crate::record::Book;
+use crate::book::Book;
+use crate::exact_book::ExactBook;
 use crate::refused::Refused;
 use std::fmt;
 
@@ -22,7 +23,7 @@ pub enum BookCall {
 impl BookCall {
     /// The line that the call is about.
     pub fn line(self) -> u32
-        ensures { result ≡ line_called self }
+        ensures { result ≡ call_line self }
     {
         match self {
             BookCall::Note { line, .. }
@@ -46,11 +47,11 @@ impl fmt::Display for BookCall {
     }
 }
 
-/// Makes a call of a book.
+/// Makes a call of a book. A refused call changes nothing.
 pub fn make<B: Book>(book: &mut B, call: BookCall) -> Result<(), Refused>
-    ensures answer { result ≡ granted (grants B.Book.kind (B.Book.model book.old) call) }
-    ensures after { B.Book.model book.new
-        ≡ next B.Book.kind (B.Book.model book.old) call }
+    ensures answer { result ≡ grant_result (is_granted B.kind (B.model book.old) call) }
+    ensures after { B.model book.new
+        ≡ state_after_call B.kind (B.model book.old) call }
 {
     match call {
         BookCall::Note { line, time } => book.note(line, time),
@@ -60,18 +61,19 @@ pub fn make<B: Book>(book: &mut B, call: BookCall) -> Result<(), Refused>
     }
 }
 
-/// Makes a call of a book and, if it is granted, of the exact book too. In every run of such calls, from two new books
-/// on, the exact book grants whatever the other does, tells no later stamp of any line, and has no later latest stamp.
+/// Makes a call of a book and, if it is granted, of the exact book too. In every run of such calls
+/// from two new books, the exact book grants each call that the other grants, and none of its
+/// stamps, marks or latest stamps is later.
 #[tactic(auto, using(crate::proofs::Earliest::made_of_both))]
 pub fn make_both<B: Book>(
     book: &mut B,
     exact: &mut ExactBook,
     call: BookCall,
 ) -> Result<(), Refused>
-    ensures answer { result ≡ granted (grants B.Book.kind (B.Book.model book.old) call) }
-    ensures after { (B.Book.model book.new, exact_page exact.new)
-        ≡ next_both B.Book.kind (B.Book.model book.old, exact_page exact.old) call }
-    ensures earliest { Earliest B.Book.kind }
+    ensures answer { result ≡ grant_result (is_granted B.kind (B.model book.old) call) }
+    ensures after { (B.model book.new, exact_state exact.new)
+        ≡ both_after_call B.kind (B.model book.old, exact_state exact.old) call }
+    ensures earliest { NeverEarlierThanExact B.kind }
 {
     make(book, call)?;
     let _ = make(exact, call);

@@ -1,19 +1,21 @@
-//! What a book keeps of a line.
+//! What a book keeps of a line: its stamps and its reservation.
 ghost use Rattle.std.specs.Prelude.{◌≡◌, ◌<◌};
-ghost use Rattle.book.specs.Meaning.{sound_time};
+ghost use Rattle.book.specs.Meaning.{is_valid_time};
 
 use protocol::limits::{LAST_STAMP, WARPS};
 
-/// How late a line was written and read: all that a book may know of a line that no store holds.
+/// How late a line was written and read.
 #[derive(Clone, Copy, PartialEq, Eq, Debug)]
 pub struct Stamps {
-    /// The write stamp: a smaller stamp comes too late to read or write the line.
+    /// The write stamp: a transaction with a smaller stamp comes too late to read or write the
+    /// line.
     pub write: u32,
-    /// The read mark: an earlier time comes too late to write the line.
+    /// The read mark: a transaction at an earlier time comes too late to write the line.
     pub read: (u32, u32),
 }
 
-/// The stores that hold a line reserved: how many, and the warp that made them. Only an entry makes one.
+/// The reservation of a line: how many stores hold it, and the warp that made them. Only an entry
+/// makes one.
 #[derive(Clone, Copy, PartialEq, Eq, Debug)]
 pub struct Hold {
     warp: u32,
@@ -21,24 +23,25 @@ pub struct Hold {
     ghost some: { 0 < stores },
 }
 
-/// What a book keeps of a line: its stamps, and the stores that hold it.
+/// What a book keeps of a line: its stamps, and its reservation if it has one.
 #[derive(Clone, Copy, PartialEq, Eq, Debug)]
 pub struct Entry {
     pub stamps: Stamps,
     pub hold: Option<Hold>,
 }
 
-/// Whether a call may name the time: no stamp past the end of the clock, no warp past the last.
-pub fn can_be(time: (u32, u32)) -> bool
-    ensures { result ≡ sound_time time }
+/// Whether a call may name this time: its stamp is not past the end of the clock, and there is such
+/// a warp.
+pub fn is_valid_time(time: (u32, u32)) -> bool
+    ensures { result ≡ is_valid_time time }
 {
     time.0 <= LAST_STAMP && time.1 < WARPS
 }
 
 impl Stamps {
-    ghost use Rattle.book.specs.Entries.{raised, least};
+    ghost use Rattle.book.specs.Entries.{later_stamps, earlier_stamps};
 
-    /// No stamp at all.
+    /// The stamps of a line that was never read or written.
     pub const NONE: Stamps = Stamps {
         write: 0,
         read: (0, 0),
@@ -46,7 +49,7 @@ impl Stamps {
 
     /// The later of each.
     pub fn raised(self, other: Stamps) -> Stamps
-        ensures { result ≡ raised self other }
+        ensures { result ≡ later_stamps self other }
     {
         Stamps {
             write: self.write.max(other.write),
@@ -54,11 +57,9 @@ impl Stamps {
         }
     }
 
-    // The twin of `raised`, but for which is taken: a rule of choice as a parameter would have to choose among numbers
-    // and among pairs, so two of them would be passed.
     /// The earlier of each.
     pub fn least(self, other: Stamps) -> Stamps
-        ensures { result ≡ least self other }
+        ensures { result ≡ earlier_stamps self other }
     {
         Stamps {
             write: self.write.min(other.write),
@@ -68,11 +69,11 @@ impl Stamps {
 }
 
 impl Hold {
-    ghost use Rattle.book.specs.Entries.{hold_by};
+    ghost use Rattle.book.specs.Entries.{hold_of};
 
-    /// So many stores of a warp; no hold where there are none.
+    /// The hold of this many stores by a warp; none for 0 stores.
     fn of(warp: u32, stores: u32) -> Option<Hold>
-        ensures { result ≡ hold_by warp stores }
+        ensures { result ≡ hold_of warp stores }
     {
         match stores {
             0 => None,
@@ -82,9 +83,10 @@ impl Hold {
 }
 
 impl Entry {
-    ghost use Rattle.book.specs.Entries.{entry_read, held_by, with_stores, owner_told, stores_told};
+    ghost use Rattle.book.specs.Entries.{entry_owner, entry_stores};
+    ghost use Rattle.book.specs.Entries.{entry_after_read, reserved_entry, entry_with_stores};
 
-    /// A line that no call named yet.
+    /// A line that no call has named.
     pub const UNTOUCHED: Entry = Entry {
         stamps: Stamps::NONE,
         hold: None,
@@ -92,21 +94,21 @@ impl Entry {
 
     /// How many stores hold the line.
     pub fn stores(self) -> u32
-        ensures { result ≡ stores_told self }
+        ensures { result ≡ entry_stores self }
     {
         self.hold.map_or(0, |hold| hold.stores)
     }
 
     /// The warp whose stores hold the line.
     pub fn owner(self) -> Option<u32>
-        ensures { result ≡ owner_told self }
+        ensures { result ≡ entry_owner self }
     {
         self.hold.map(|hold| hold.warp)
     }
 
-    /// The line after a read.
+    /// The entry after a read.
     pub fn read_at(self, time: (u32, u32)) -> Entry
-        ensures { result ≡ entry_read self time }
+        ensures { result ≡ entry_after_read self time }
     {
         let read = Stamps {
             read: time,
@@ -118,9 +120,9 @@ impl Entry {
         }
     }
 
-    /// The line after its reservation by a warp, with its write stamp raised to a stamp.
-    pub fn held_by(self, warp: u32, stamp: u32) -> Entry
-        ensures { result ≡ held_by self warp stamp }
+    /// The entry after a warp reserves the line and raises its write stamp to `stamp`.
+    pub fn reserved_by(self, warp: u32, stamp: u32) -> Entry
+        ensures { result ≡ reserved_entry self warp stamp }
     {
         let written = Stamps {
             write: stamp,
@@ -132,9 +134,10 @@ impl Entry {
         }
     }
 
-    /// The line with so many stores, of the warp that holds it or else of warp 0.
+    /// The entry with another number of stores, of the same owner. If the line has no owner, warp 0
+    /// becomes it, unless the number is 0.
     pub fn with_stores(self, stores: u32) -> Entry
-        ensures { result ≡ with_stores self stores }
+        ensures { result ≡ entry_with_stores self stores }
     {
         let warp = self.owner().unwrap_or(0);
         Entry {

@@ -1,5 +1,5 @@
-//! How a book refuses.
+//! The refusal of a call by a book.
 
-/// A call that the book does not grant. It says just that.
+/// The book does not grant the call. It gives no reason.
 #[derive(Clone, Copy, PartialEq, Eq, Debug)]
 pub struct Refused;

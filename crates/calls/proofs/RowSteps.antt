@@ -1,5 +1,9 @@
--- What has been read and what is still to be read are the whole: kept by a row more, and whole at the last row.
-use Rattle.std.proofs.Common.{◌≡◌, ℕ, zero, suc, ◌+◌, ◌-◌, ◌*◌, ◌/◌, ◌<◌, ◌≤◌, min, cond, leb, ltb, List, [], ◌∷◌, ◌++◌, length, take, drop, get_or, Some, None, Ok, Err, Option, Result, sym, refl, ap, ◌∙◌, ap₂, ◌⊎◌, ⊎_elim, append_assoc, append-nil, arith, length-take, length-drop, get_or-take, drop-drop}
+-- What has been read and what is still to be read are the whole: kept by a row more, and whole at
+-- the last row.
+use Rattle.std.proofs.Common.{◌≡◌, ℕ, zero, suc, ◌+◌, ◌-◌, ◌*◌, ◌/◌, ◌<◌, ◌≤◌, min, cond, leb, ltb}
+use Rattle.std.proofs.Common.{List, [], ◌∷◌, ◌++◌, length, take, drop, get_or, Some, None, Ok, Err}
+use Rattle.std.proofs.Common.{Option, Result, sym, refl, ap, ◌∙◌, ap₂, ◌⊎◌, ⊎_elim, append_assoc}
+use Rattle.std.proofs.Common.{append-nil, arith, length-take, length-drop, get_or-take, drop-drop}
 use Rattle.std.specs.Simd.{first_chunks}
 use Rattle.std.specs.List.{slice_range}
 use Rattle.std.proofs.lemmas.List.{take_all, drop_all}
@@ -10,7 +14,8 @@ use Rattle.protocol.specs.Faults.{fault_in_file}
 use Rattle.protocol.specs.declared.call.Call.{Call}
 use Rattle.protocol.specs.declared.fault.Fault.{Fault}
 use Rattle.protocol.specs.declared.fault.Refusal.TheVariants.{CutShort, TooManyRows, BadLetter}
-use Rattle.calls.specs.Format.{Rows, rows_from, row_before, row_at, row_of, row_call, no_more, unless}
+use Rattle.calls.specs.Format.{Rows, rows_from, row_before, row_at, row_result, row_call}
+use Rattle.calls.specs.Format.{empty_rows, file_fault_unless}
 use Rattle.calls.proofs.SameBytes.{same_in_part, same_call}
 
 -- Some calls before some rows.
@@ -21,21 +26,25 @@ calls_before calls rows = record { calls = calls ++ rows.calls; fault = rows.fau
 abbrev pub standing : Result Call Fault → Result (Option Call) Fault
 standing = result_map_both Some (λ fault. fault)
 
-standing_call : (call : Option Call) (fault : Fault) → standing (ok_or call fault) ≡ ok_or (option_map Some call) fault
+standing_call : (call : Option Call) (fault : Fault)
+    → standing (ok_or call fault) ≡ ok_or (option_map Some call) fault
 standing_call None fault = refl
 standing_call (Some call) fault = refl
 
 -- What a file has from a place on is nothing past its end.
 pub rest_is :
-    {R : Type 0} (now : R → List ℕ) (bytes : List ℕ) (start : ℕ) (none : R) → now none ≡ [] → (found : Option R)
+    {R : Type 0} (now : R → List ℕ) (bytes : List ℕ) (start : ℕ) (none : R) → now none ≡ []
+    → (found : Option R)
     → MatchOption found ((length bytes < start) ⊎ (length bytes < length bytes))
-    (λ x. (start ≤ length bytes) × (length bytes ≤ length bytes) × (now x ≡ slice_range bytes start (length bytes))
+    (λ x. (start ≤ length bytes) × (length bytes ≤ length bytes)
+    × (now x ≡ slice_range bytes start (length bytes))
     × (length (now x) + start ≡ length bytes))
     → now (unwrap_or found none) ≡ drop start bytes
 rest_is now bytes start none nothing None past =
     nothing ∙ sym (drop_all start bytes (⊎_elim (λ h. omega arith) (λ h. omega arith) past))
 rest_is now bytes start none nothing (Some rest) within =
-    within.2 ∙ take_all (length bytes - start) (drop start bytes) (omega (arith, length-drop start bytes))
+    within.2 ∙ take_all (length bytes - start) (drop start bytes)
+    (omega (arith, length-drop start bytes))
 
 -- Some bytes by eights: there are so many, and each is the part from its place on.
 eights_many : (count : ℕ) (bytes : List ℕ) → length (first_chunks 8 count bytes) ≡ count
@@ -54,14 +63,16 @@ row_in (suc count) (suc i) bytes h =
 
 -- The bytes of a whole row say what stands at its place.
 row_stands :
-    (bytes : List ℕ) (place : ℕ) → place + 8 ≤ length bytes → (row : List ℕ) → row ≡ take 8 (drop place bytes)
-    → standing (row_of row place) ≡ row_at bytes place
+    (bytes : List ℕ) (place : ℕ) → place + 8 ≤ length bytes → (row : List ℕ)
+    → row ≡ take 8 (drop place bytes)
+    → standing (row_result row place) ≡ row_at bytes place
 row_stands bytes place fits row is =
     let begun = lt-leb (length bytes) place (omega arith) in
     let whole = le-ltb (length bytes) (place + 8) fits in
     simp (begun, whole)
     (ap (λ call. standing (ok_or call (fault_in_file BadLetter place)))
-    (ap (λ r. row_call r 0) is ∙ same_call 0 place 8 (same_in_part bytes place 8 8 (omega arith)) (omega arith))
+    (ap (λ r. row_call r 0) is ∙ same_call 0 place 8 (same_in_part bytes place 8 8 (omega arith))
+    (omega arith))
     ∙ standing_call (row_call bytes place) _)
 
 -- The whole rows that stand from a start on, as far as they may come.
@@ -78,13 +89,15 @@ whole_rows_are bytes start rest is rows eights many most few =
     ap₂ take (few ∙ ap (λ n. min n 4096) many) eights
     ∙ ap (λ xs. take (min (length xs / 8) 4096) (first_chunks 8 (length xs / 8) xs)) is
 
-module _ (bytes : List ℕ) (start : ℕ) (rows : List (List ℕ)) (are : rows ≡ whole_rows bytes start) where
+module _ (bytes : List ℕ) (start : ℕ) (rows : List (List ℕ))
+    (are : rows ≡ whole_rows bytes start) where
   abbrev here : List ℕ
   here = drop start bytes
 
   pub rows_many : length rows ≡ min (length here / 8) 4096
   rows_many =
-      ap length are ∙ length-take (min (length here / 8) 4096) (first_chunks 8 (length here / 8) here)
+      ap length are
+      ∙ length-take (min (length here / 8) 4096) (first_chunks 8 (length here / 8) here)
       ∙ omega (arith, eights_many (length here / 8) here)
 
   pub row_fits : (i : ℕ) → i < length rows → (i < 4096) × (start + 8 * i + 8 ≤ length bytes)
@@ -101,17 +114,19 @@ module _ (bytes : List ℕ) (start : ℕ) (rows : List (List ℕ)) (are : rows �
 
   pub these_stand :
       (i : ℕ) → i < length rows → (n : ℕ) → n ≡ i
-      → standing (row_of (get_or rows i []) (start + 8 * n)) ≡ row_at bytes (start + 8 * i)
+      → standing (row_result (get_or rows i []) (start + 8 * n)) ≡ row_at bytes (start + 8 * i)
   these_stand i inside n e =
       let many = rows_many in
-      ap (λ k. standing (row_of (get_or rows i []) (start + 8 * k))) e
+      ap (λ k. standing (row_result (get_or rows i []) (start + 8 * k))) e
       ∙ row_stands bytes (start + 8 * i) ((row_fits i inside).1) (get_or rows i [])
       (ap (λ xs. get_or xs i []) are
-      ∙ get_or-take (min (length here / 8) 4096) (first_chunks 8 (length here / 8) here) i [] (omega arith)
+      ∙ get_or-take (min (length here / 8) 4096) (first_chunks 8 (length here / 8) here) i []
+      (omega arith)
       ∙ row_in (length here / 8) i here (omega arith) ∙ ap (take 8) (drop-drop (8 * i) start bytes))
 
 -- A fault, or none, with no rows after it.
-last_found : (calls : List Call) (found : Option Fault) (rows : Rows) → calls_before calls (no_more found) ≡ rows
+last_found : (calls : List Call) (found : Option Fault) (rows : Rows)
+    → calls_before calls (empty_rows found) ≡ rows
     → (calls ≡ rows.calls) × (found ≡ rows.fault)
 last_found calls found rows e = (sym (append-nil calls) ∙ ap (λ r. r.calls) e, ap (λ r. r.fault) e)
 
@@ -127,7 +142,8 @@ module _ (bytes : List ℕ) (place n : ℕ) (calls : List Call) (rows : Rows)
       ∙ ap (λ k. calls_before calls (rows_from bytes k place)) (sym e) ∙ whole
 
   pub one_more :
-      (m after : ℕ) → m + 1 ≡ n → place + 8 ≡ after → (call : Call) → Ok (Some call) ≡ row_at bytes place
+      (m after : ℕ) → m + 1 ≡ n → place + 8 ≡ after → (call : Call)
+      → Ok (Some call) ≡ row_at bytes place
       → calls_before (calls ++ call ∷ []) (rows_from bytes m after) ≡ rows
   one_more m after next e call is =
       ap (λ p. calls_before (calls ++ call ∷ []) (rows_from bytes m p)) (sym e)
@@ -144,7 +160,8 @@ module _ (bytes : List ℕ) (place n : ℕ) (calls : List Call) (rows : Rows)
   pub at_last :
       (read last : ℕ) → n + read ≡ 4096 → place ≡ last → (0 < n → length bytes < last + 8)
       → (calls ≡ rows.calls)
-      × (unless (leb (length bytes) last) (cond (ltb read 4096) CutShort TooManyRows) last ≡ rows.fault)
+      × (file_fault_unless (leb (length bytes) last)
+      (cond (ltb read 4096) CutShort TooManyRows) last ≡ rows.fault)
   unfolding rows_from
   at_last read last left is short =
       let here : calls_before calls (rows_from bytes n last) ≡ rows =
@@ -158,7 +175,9 @@ module _ (bytes : List ℕ) (place n : ℕ) (calls : List Call) (rows : Rows)
       (λ begun.
       let more = lt-leb (length bytes) last begun in
       let found = fault_in_file CutShort last in
-      simp (few, more) (last_found calls (Some found) rows (with_row (n - 1) m (Err found) (simp (more, cut, is)))))
+      simp (few, more)
+      (last_found calls (Some found) rows
+      (with_row (n - 1) m (Err found) (simp (more, cut, is)))))
       (λ ended.
       let over = le-leb (length bytes) last ended in
       simp over (last_found calls None rows (with_row (n - 1) m (Ok None) (simp (over, is)))))
@@ -166,5 +185,6 @@ module _ (bytes : List ℕ) (place n : ℕ) (calls : List Call) (rows : Rows)
       (λ all.
       let z : n ≡ 0 = omega arith in
       let full = le-ltb read 4096 (omega arith) in
-      simp full (last_found calls _ rows (ap (λ k. calls_before calls (rows_from bytes k last)) (sym z) ∙ here)))
+      simp full (last_found calls _ rows
+      (ap (λ k. calls_before calls (rows_from bytes k last)) (sym z) ∙ here)))
       (cases_lt 0 n)

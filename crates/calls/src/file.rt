@@ -1,12 +1,11 @@
-//! What a calls file says, and why one cannot be read.
+//! The content of a calls file, and why a file cannot be read.
 ghost use Rattle.std.specs.Prelude.{◌≡◌, ◌≤◌, vec_len};
 ghost use Rattle.std.specs.Option.{ok_or};
 ghost use Rattle.protocol.specs.declared.fault.Refusal.TheVariants.{BadLetter};
 ghost use Rattle.calls.specs.Format.{book_letter, book_named, LettersNameBooks, BooksKeepLetters};
 ghost use Rattle.calls.specs.declared.file.ReadError.TheVariants.{Damaged, NoMemory};
 
-use protocol::call::Call;
-use protocol::fault::{Fault, Refusal};
+use protocol::{Call, Fault, Refusal};
 use std::alloc::AllocError;
 
 /// The version book that a file asks for.
@@ -17,7 +16,6 @@ pub enum BookKind {
 }
 
 impl BookKind {
-    // No From: it is the way back of a TryFrom, and reads as such beside it.
     /// The letter by which a calls file asks for the book.
     pub fn letter(self) -> char
         ensures { result ≡ book_letter self }
@@ -48,8 +46,8 @@ impl TryFrom<char> for BookKind {
     }
 }
 
-/// A file whose header is sound: the machine to make, the calls to make of it, and what is wrong with the first row
-/// that names no call, if there is one.
+/// The content of a file whose header is sound: the machine to make, the calls to make of it, and
+/// what is wrong after the last of these calls, if anything.
 #[derive(Drop)]
 pub struct CallsFile {
     pub book: BookKind,
@@ -61,7 +59,7 @@ pub struct CallsFile {
     ghost lines: { vec_len values ≤ 4096 },
 }
 
-/// Why nothing is read: the header is damaged, or there is no memory for what it says.
+/// Why a file cannot be read: its header is damaged, or memory runs out.
 #[derive(Clone, Copy, PartialEq, Eq, Debug)]
 pub enum ReadError {
     Damaged(Fault),

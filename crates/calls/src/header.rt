@@ -1,33 +1,34 @@
 //! The header: marks, version, book, sizes, first stamps and line values.
-ghost use Rattle.std.specs.Prelude.{◌≡◌, ◌/◌, ◌<◌, length, position, IfOk, IfSome, MatchResult, nat_lt};
+ghost use Rattle.std.specs.Prelude.{◌≡◌, ◌/◌, ◌<◌, length, position, IfOk, IfSome, MatchResult};
+ghost use Rattle.std.specs.Prelude.{nat_lt};
 ghost use Rattle.protocol.specs.Limits.{last_stamp};
 ghost use Rattle.calls.specs.Format.{four_bytes, numbers};
-ghost use Rattle.calls.specs.Headers.{Versioned, Shaped, DamagedBy};
+ghost use Rattle.calls.specs.Headers.{HasVersion, HasShape, IsDamagedBy};
 
 use crate::file::BookKind;
-use protocol::fault::{Fault, Refusal};
-use protocol::limits;
+use protocol::{Fault, Refusal, limits};
 use std::alloc::{AllocError, Global};
 
 /// The one version of the format.
 const VERSION: u16 = 1;
 
-/// The version stands here, after the marks.
+/// The place of the version, after the marks.
 const VERSION_PLACE: usize = 3;
 
-/// The book's letter stands here.
+/// The place of the book's letter.
 const BOOK_PLACE: usize = 5;
 
-/// The numbers of warps and of lines stand here.
+/// The place of the numbers of warps and lines.
 const SIZES_PLACE: usize = 6;
 
-/// A file has at most so many warps.
+/// The maximum number of warps.
 pub(crate) const WARPS: usize = limits::WARPS as usize;
 
-/// A file has at most so many lines.
+/// The maximum number of lines.
 pub(crate) const LINES: usize = limits::LINES as usize;
 
-/// The header's sizes, as far as they say where everything else stands.
+/// The book, and the numbers of warps and lines, which fix where the line values and the rows
+/// begin.
 #[derive(Clone, Copy)]
 pub struct Shape {
     pub book: BookKind,
@@ -35,9 +36,9 @@ pub struct Shape {
     pub lines: usize,
 }
 
-/// The part of the header that stands before the first stamps.
+/// Reads the header up to the first stamps.
 pub fn read_shape(bytes: &[u8]) -> Result<Shape, Fault>
-    ensures { MatchResult result (Shaped bytes.now) (DamagedBy bytes.now) }
+    ensures { MatchResult result (HasShape bytes.now) (IsDamagedBy bytes.now) }
 {
     let rest = after_version(bytes)?;
     let [letter, sizes @ ..] = rest else {
@@ -56,9 +57,9 @@ pub fn read_shape(bytes: &[u8]) -> Result<Shape, Fault>
     Ok(Shape { book, warps, lines })
 }
 
-// What follows the marks and the version.
+// The bytes after the marks and the version.
 fn after_version(bytes: &[u8]) -> Result<&[u8], Fault>
-    ensures { MatchResult result (λ rest. Versioned bytes.now rest.now) (DamagedBy bytes.now) }
+    ensures { MatchResult result (λ rest. HasVersion bytes.now rest.now) (IsDamagedBy bytes.now) }
 {
     match bytes {
         [b'G', b'T', b'M', high, low, rest @ ..] => {
@@ -72,7 +73,7 @@ fn after_version(bytes: &[u8]) -> Result<&[u8], Fault>
     }
 }
 
-/// The 32-bit numbers that some bytes say, most significant byte first.
+/// The 32-bit numbers in some bytes, most significant byte first.
 pub(crate) fn read_numbers(heap: Global, bytes: &[u8]) -> Result<Vec<u32>, AllocError>
     ensures { IfOk result (λ v. v.items ≡ numbers bytes.now 0 (length bytes.now / 4)) }
 {
@@ -80,14 +81,14 @@ pub(crate) fn read_numbers(heap: Global, bytes: &[u8]) -> Result<Vec<u32>, Alloc
     quads.iter().map(read_number).collect(heap)
 }
 
-// The number that four bytes say.
+// The number in four bytes.
 fn read_number(quad: &[u8; 4]) -> u32
     ensures { result ≡ four_bytes quad.now 0 }
 {
     u32::from_be_bytes(*quad)
 }
 
-/// The first stamp past the end of the clock, by its number.
+/// The index of the first stamp that is past the end of the clock.
 pub(crate) fn find_late(stamps: &[u32]) -> Option<usize>
     ensures first { result ≡ position (λ stamp. nat_lt last_stamp stamp) stamps.now }
     ensures within { IfSome result (λ number. number < length stamps.now) }

@@ -1,9 +1,12 @@
-//! The calls file: from its bytes to the machine's shape and the calls to make.
+//! The calls file: from its bytes to the machine to make and the calls to make of it.
 #![tactic(auto)]
 
-pub mod file;
+mod file;
 mod header;
-pub mod reader;
+mod reader;
 mod rows;
 #[cfg(test)]
 mod tests;
+
+pub use file::{BookKind, CallsFile, ReadError};
+pub use reader::{enough_bytes, read};

@@ -1,4 +1,4 @@
-//! From the bytes of a calls file to what it says.
+//! Reads a calls file.
 ghost use Rattle.std.specs.Prelude.{◌≡◌, ◌+◌};
 ghost use Rattle.calls.specs.Front.{Suffices, longest_file};
 ghost use Rattle.calls.specs.Reading.{Reads};
@@ -6,14 +6,14 @@ ghost use Rattle.calls.specs.Reading.{Reads};
 use crate::file::{CallsFile, ReadError};
 use crate::header::{LINES, WARPS, find_late, read_numbers, read_shape};
 use crate::rows::{ROW_BYTES, ROWS, read_rows};
-use protocol::fault::{Fault, Refusal};
+use protocol::{Fault, Refusal};
 use std::alloc::Global;
 
-/// The first stamps stand here, after the marks, the version, the book's letter and the sizes.
+/// The place of the first stamps, after the marks, the version, the book's letter and the sizes.
 const STAMPS_PLACE: usize = 9;
 
-/// What a calls file says. A damaged header is told by the first of its checks that fails; a damaged row is told after
-/// the calls before it.
+/// Reads a calls file. A damaged header is an error, for the first check that fails. A damaged row
+/// ends the calls, and the file's `fault` says what is wrong with it.
 pub fn read(heap: Global, bytes: &[u8]) -> Result<CallsFile, ReadError>
     ensures { Reads bytes.now result }
 {
@@ -38,7 +38,7 @@ pub fn read(heap: Global, bytes: &[u8]) -> Result<CallsFile, ReadError>
     })
 }
 
-/// So many first bytes tell all that a file says, however long it is: one more than the longest file has.
+/// How many bytes to read: no byte past them matters. One more than the longest file has.
 pub fn enough_bytes() -> usize
     ensures tells { Suffices result }
     ensures one_more { result ≡ longest_file + 1 }
@@ -46,7 +46,7 @@ pub fn enough_bytes() -> usize
     longest_file() + 1
 }
 
-// The length of a file with every warp, line and row.
+// The length of a file with the maximum number of warps, lines and rows.
 fn longest_file() -> usize
     ensures { result ≡ longest_file }
 {

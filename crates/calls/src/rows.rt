@@ -1,29 +1,28 @@
-//! The rows: one call each.
+//! The rows of a calls file, one call each.
 ghost use Rattle.std.specs.Prelude.{◌≡◌, ◌^◌, ◌<◌, ◌≤◌, length, cond, IfOk, nat_le, nat_lt};
-ghost use Rattle.calls.specs.Format.{row_of, rows_from, row_limit, unless};
+ghost use Rattle.calls.specs.Format.{row_result, rows_from, row_limit, file_fault_unless};
 ghost use Rattle.protocol.specs.declared.fault.Refusal.TheVariants.{CutShort, TooManyRows};
-ghost use Rattle.calls.specs.RowReading.{Holds};
+ghost use Rattle.calls.specs.RowReading.{HoldsRows};
 
-use protocol::call::{Call, Op};
-use protocol::fault::{Fault, Refusal};
+use protocol::{Call, Fault, Op, Refusal};
 use std::alloc::{AllocError, Global};
 
-/// A file has at most so many rows.
+/// The maximum number of rows.
 pub(crate) const ROWS: usize = 4096;
 
-/// A row has so many bytes.
+/// The size of a row.
 pub(crate) const ROW_BYTES: usize = 8;
 
-/// The calls of the rows, and what is wrong after them.
+/// The calls of the rows, and what is wrong after them, if anything.
 #[derive(Drop)]
 pub struct RowsRead {
     pub calls: Vec<Call>,
     pub fault: Option<Fault>,
 }
 
-/// The call that the bytes of a row say, where the row begins at a place.
+/// The call in a row's bytes. A fault names the place where the row begins.
 fn read_row(row: &[u8; ROW_BYTES], place: usize) -> Result<Call, Fault>
-    ensures { result ≡ row_of row.now place }
+    ensures { result ≡ row_result row.now place }
 {
     let [letter, warp, high, low, a, b, c, d] = row;
     let line = u32::from(u16::from_be_bytes([*high, *low]));
@@ -38,10 +37,10 @@ fn read_row(row: &[u8; ROW_BYTES], place: usize) -> Result<Call, Fault>
     })
 }
 
-// The bytes of the file and a place, and no part of them: faults are told by their places in the file.
-/// The rows from a place on.
+/// The rows from a place of the file to its end. It takes all bytes of the file, since faults name
+/// places in the file.
 pub(crate) fn read_rows(heap: Global, bytes: &[u8], start: usize) -> Result<RowsRead, AllocError>
-    ensures { IfOk result (λ read. Holds read (rows_from bytes.now row_limit start)) }
+    ensures { IfOk result (λ read. HoldsRows read (rows_from bytes.now row_limit start)) }
 {
     let rest = bytes.get(start..).unwrap_or(&[]);
     let (rows, _) = rest.as_chunks::<ROW_BYTES>();
@@ -61,9 +60,11 @@ pub(crate) fn read_rows(heap: Global, bytes: &[u8], start: usize) -> Result<Rows
     Ok(RowsRead { calls, fault })
 }
 
-// What is wrong where the whole rows end, so many of them: the row that begins there is cut short, or one too many.
+// The fault after the rows that are read, if bytes follow them: a row cut short, or one row too
+// many.
 fn after_rows(bytes: &[u8], place: usize, rows: usize) -> Option<Fault>
-    ensures { result ≡ unless (nat_le (length bytes.now) place) (cond (nat_lt rows row_limit) CutShort TooManyRows) place }
+    ensures { result ≡ file_fault_unless (nat_le (length bytes.now) place)
+        (cond (nat_lt rows row_limit) CutShort TooManyRows) place }
 {
     let refusal = if rows < ROWS {
         Refusal::CutShort

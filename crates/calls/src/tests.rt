@@ -1,15 +1,14 @@
 //! Damaged and sound files, by example.
 use crate::file::{BookKind, CallsFile, ReadError};
 use crate::reader::read;
-use protocol::call::{Call, Op};
-use protocol::fault::{Fault, Layer, Refusal};
+use protocol::{Call, Fault, Layer, Op, Refusal};
 use std::alloc::Global;
 use std::process::Abort;
 use std::test::Fail;
 
 const SOUND: &[u8] = b"GTM\x00\x01E\x01\x00\x01\x00\x00\x00\x05\x00\x00\x00\x07";
 
-// A damaged header, with the number and the place that are told of it.
+// A damaged header: the number and the place of its fault.
 fn damaged(
     rt: &impl Abort,
     heap: Global,
@@ -28,7 +27,7 @@ fn damaged(
     }
 }
 
-// What is read of a file whose header is sound.
+// The content of a file whose header is sound.
 fn sound(heap: Global, bytes: &[u8]) -> Result<CallsFile, Fail> {
     read(heap, bytes).map_err(|_| Fail::new("the header is damaged"))
 }

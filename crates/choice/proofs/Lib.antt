@@ -1,2 +1,2 @@
-pub mod Law
-mod Turns
+pub mod ChoiceLaw
+mod LoopSteps

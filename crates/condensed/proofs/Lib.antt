@@ -1,4 +1,4 @@
-mod CondensedNew
+mod NewBook
 mod SharedMark
-mod SixteenHeld
-pub mod Rooms
+mod FullBook
+pub mod FreeSlots

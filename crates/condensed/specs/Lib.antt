@@ -1,11 +1,6 @@
 pub mod Filter
 pub mod Condensed
-pub mod Pages
-pub mod Shared
-pub mod CondensedKeeps
-pub mod Indices
-pub mod Sieve
-pub mod Slots
-pub mod CondensedTells
-pub mod CondensedCalls
-pub mod Seventeenth
+pub mod CondensedState
+pub mod FullBook
+pub mod SharedEntries
+pub mod Lemmas

@@ -1,25 +1,37 @@
 //! Stamps of many lines in few entries.
 ghost use Rattle.std.specs.Prelude.{◌≡◌, ◌<◌, true, [], ◌∷◌, replicate};
 ghost use Rattle.book.specs.Entries.{no_stamps};
-ghost use Rattle.condensed.specs.Condensed.{turned_out};
-ghost use Rattle.condensed.specs.Filter.{index_by, indices_of, small, FourWays, Inside};
-ghost use Rattle.condensed.specs.Filter.{filter_told, filter_raised, raised_at};
+ghost use Rattle.condensed.specs.Condensed.{filter_after_eviction};
+ghost use Rattle.condensed.specs.Filter.{index_by, indices_of, all_below_64, AreInside};
+ghost use Rattle.condensed.specs.Filter.{filter_stamps, filter_raised_to, raised_at};
 
 use crate::slot::Slot;
-use book::entry::Stamps;
+use book::Stamps;
+use std::marker::Model;
 
 /// Four ways of 64 entries. Each line has an entry in each way, and shares it with other lines.
 #[derive(Drop)]
 pub struct Filter {
-    pub(crate) ways: [[Stamps; 64]; 4],
-    ghost size: { FourWays ways },
+    ways: [[Stamps; 64]; 4],
 }
 
-/// The four entries of a line, as one index in each way.
-// A form that is fixed (docs/DECISIONS.md): one array by value.
+impl Model for Filter {
+    ghost use Rattle.std.specs.Prelude.{List};
+    ghost use Rattle.book.specs.declared.entry.Stamps.{Stamps};
+    ghost use Rattle.condensed.specs.Filter.{FourWays};
+
+    ghost Value = { List (List Stamps) };
+
+    ghost view = { λ filter. filter.ways };
+
+    ghost invariant = { λ filter. FourWays filter.ways };
+}
+
+/// The four entries of a line, as an index in each way.
+// Keep this form: docs/DECISIONS.md.
 pub fn indices(line: u32) -> [usize; 4]
     ensures value { result ≡ indices_of line }
-    ensures inside { Inside result }
+    ensures inside { AreInside result }
     ensures example { indices_of 5 ≡ 5 ∷ 51 ∷ 16 ∷ 16 ∷ [] }
 {
     [
@@ -33,7 +45,7 @@ pub fn indices(line: u32) -> [usize; 4]
 /// The exclusive or of a way's numbers for the bits set in the line's number, lowest first.
 fn index(numbers: &[usize; 12], line: u32) -> usize
     ensures value { result ≡ index_by numbers.now line }
-    ensures inside { small numbers.now ≡ true → result < 64 }
+    ensures inside { all_below_64 numbers.now ≡ true → result < 64 }
 {
     let mut index = 0;
     for (bit, number) in numbers.iter().enumerate() {
@@ -45,19 +57,19 @@ fn index(numbers: &[usize; 12], line: u32) -> usize
 }
 
 impl Filter {
-    /// A filter that tells no stamp of any line.
+    /// A filter without stamps.
     pub fn new() -> Filter
-        ensures { result.ways ≡ replicate 4 (replicate 64 no_stamps) }
+        ensures { result ≡ replicate 4 (replicate 64 no_stamps) }
     {
         let ways = [[Stamps::NONE; 64]; 4];
         Filter { ways }
     }
 
     /// The smallest write stamp and the earliest read mark of four entries.
-    #[tactic(auto, unfolding(crate::specs::Filter::filter_told))]
-    pub(crate) fn told(&self, four: [usize; 4]) -> Stamps
-        requires { Inside four }
-        ensures { result ≡ filter_told self.now.ways four }
+    #[tactic(auto, unfolding(crate::specs::Filter::filter_stamps))]
+    pub(crate) fn stamps(&self, four: [usize; 4]) -> Stamps
+        requires { AreInside four }
+        ensures { result ≡ filter_stamps self.now four }
     {
         let [a, b, c, d] = four;
         let low = self.ways[0][a].least(self.ways[1][b]);
@@ -65,11 +77,11 @@ impl Filter {
         low.least(high)
     }
 
-    /// Raises four entries to stamps, where they are earlier.
-    #[tactic(auto, unfolding(crate::specs::Filter::filter_raised))]
+    /// Raises each of the four entries to `stamps`, where it is earlier.
+    #[tactic(auto, unfolding(crate::specs::Filter::filter_raised_to))]
     pub(crate) fn raise(&mut self, four: [usize; 4], stamps: Stamps)
-        requires { Inside four }
-        ensures { self.new.ways ≡ filter_raised self.old.ways four stamps }
+        requires { AreInside four }
+        ensures { self.new ≡ filter_raised_to self.old four stamps }
     {
         let [a, b, c, d] = four;
         self.raise_at(0, a, stamps);
@@ -78,22 +90,23 @@ impl Filter {
         self.raise_at(3, d, stamps);
     }
 
-    /// The line in a slot, if it is another than the one that comes in, raises its entries to its stamps.
-    pub(crate) fn turn_out(&mut self, slot: Slot, line: u32)
-        ensures { self.new.ways ≡ turned_out self.old.ways slot line }
+    /// When `line` takes a slot, raises the filter to the stamps of the line evicted from it. An
+    /// empty slot, or one that `line` is in already, changes nothing.
+    pub(crate) fn evict(&mut self, slot: Slot, line: u32)
+        ensures { self.new ≡ filter_after_eviction self.old slot line }
     {
-        if let Some(out) = slot.occupant
-            && out.line != line
+        if let Some(evicted) = slot.occupant
+            && evicted.line != line
         {
-            self.raise(indices(out.line), out.entry.stamps);
+            self.raise(indices(evicted.line), evicted.entry.stamps);
         }
     }
 
-    /// Raises one entry of a way to stamps, where it is earlier.
+    /// Raises one entry of a way to `stamps` if it is earlier.
     fn raise_at(&mut self, way: usize, index: usize, stamps: Stamps)
         requires way { way < 4 }
         requires index { index < 64 }
-        ensures { self.new.ways ≡ raised_at self.old.ways way index stamps }
+        ensures { self.new ≡ raised_at self.old way index stamps }
     {
         self.ways[way][index] = self.ways[way][index].raised(stamps);
     }

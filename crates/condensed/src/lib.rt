@@ -1,7 +1,8 @@
 //! The condensed book: a version book of few slots, and a filter for all other lines.
 #![tactic(auto)]
 
-pub mod calls;
+mod condensed_book;
 pub mod filter;
 pub mod slot;
-pub mod state;
+
+pub use condensed_book::CondensedBook;

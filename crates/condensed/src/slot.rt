@@ -1,11 +1,11 @@
-//! A slot of the condensed book.
+//! The slots of the condensed book.
 ghost use Rattle.std.specs.Prelude.{◌≡◌, ◌<◌, length, is_some, IfSome};
-ghost use Rattle.condensed.specs.Condensed.{any_free, holds, entry_in, slot_of, slot_key};
+ghost use Rattle.condensed.specs.Condensed.{any_free, slot_holds, slot_entry, slot_of, slot_key};
 
-use book::entry::Entry;
+use book::Entry;
 use choice::Ranked;
 
-/// A line in a slot, and what is told of it.
+/// A line in a slot, and its entry.
 #[derive(Clone, Copy, PartialEq, Eq, Debug)]
 pub struct Occupant {
     pub line: u32,
@@ -20,9 +20,9 @@ pub struct Slot {
 
 /// Which of the sixteen slots.
 #[derive(Clone, Copy)]
-pub(crate) struct Place {
-    pub(crate) at: usize,
-    ghost inside: { at < 16 },
+pub(crate) struct SlotIndex {
+    pub(crate) index: usize,
+    ghost in_range: { index < 16 },
 }
 
 impl Slot {
@@ -31,12 +31,12 @@ impl Slot {
 
     /// Whether the slot holds the line.
     pub fn holds(&self, line: u32) -> bool
-        ensures { result ≡ holds self.now line }
+        ensures { result ≡ slot_holds self.now line }
     {
         self.occupant.is_some_and(|occupant| occupant.line == line)
     }
 
-    /// Whether the slot may be taken: no store holds the line in it.
+    /// Whether the slot is free: no store holds the line in it.
     pub fn is_free(&self) -> bool
         ensures { result ≡ is_some (slot_key self.now) }
     {
@@ -44,16 +44,17 @@ impl Slot {
             .is_none_or(|occupant| occupant.entry.hold.is_none())
     }
 
-    /// What is told of the line in the slot; without one, as of a line that no call named yet.
+    /// The entry of the line in the slot. An empty slot has that of a line that no call has named.
     pub fn entry(self) -> Entry
-        ensures { result ≡ entry_in self }
+        ensures { result ≡ slot_entry self }
     {
         self.occupant
             .map_or(Entry::UNTOUCHED, |occupant| occupant.entry)
     }
 }
 
-/// The key of a slot that may be taken is its write stamp, or 0 where it is empty; a reserved slot may not be taken.
+/// The key of a free slot is its line's write stamp, or 0 if it is empty. A reserved slot is not
+/// allowed.
 impl Ranked for Slot {
     ghost key = { slot_key };
 
@@ -70,12 +71,12 @@ impl Ranked for Slot {
 #[tactic(auto, unfolding(crate::specs::Condensed::slot_of))]
 pub(crate) fn position_of(slots: &[Slot], line: u32) -> Option<usize>
     ensures value { result ≡ slot_of slots.now line }
-    ensures within { IfSome result (λ at. at < length slots.now) }
+    ensures within { IfSome result (λ index. index < length slots.now) }
 {
     slots.iter().position(|slot| slot.holds(line))
 }
 
-/// Whether one of the slots may be taken.
+/// Whether one of the slots is free.
 pub(crate) fn any_free(slots: &[Slot]) -> bool
     ensures { result ≡ any_free slots.now }
 {

@@ -1,32 +1,22 @@
-//! Lists stored calls files, and says of each whether its listing is the stored one, or the first row that differs and
-//! why ours is as it is.
+//! Conformance: the stored listings, the two version books on random calls, and every word that the
+//! program uses. The tests make calls of the machine, whose answers were worked out from the rules
+//! by hand.
 #![tactic(auto)]
 
-use report::report::make_report;
-use std::fs;
+mod line_view;
+mod listings;
+mod promises;
+mod random_calls;
+#[cfg(test)]
+mod tests;
+mod words;
+
+use listings::compare_listings;
+use random_calls::print_random_calls;
+use words::print_words;
 
 fn main(rt: HostRuntime) -> anyhow::Result<()> {
-    compare_all(&rt)
-}
-
-// The file `names` has a name to a line; NAME.gtm is a calls file and NAME.txt the listing that it must have.
-fn compare_all(rt: &HostRuntime) -> anyhow::Result<()> {
-    let names = fs::read_to_string(rt, "names")?;
-    for name in names.as_str().lines() {
-        compare(rt, name)?;
-    }
-    Ok(())
-}
-
-fn compare(rt: &HostRuntime, name: &str) -> anyhow::Result<()> {
-    let heap = rt.alloc();
-    let calls = fs::read(rt, format!(in heap; "{name}.gtm")?)?;
-    let stored = fs::read(rt, format!(in heap; "{name}.txt")?)?;
-    let report = make_report(heap, calls.as_slice(), stored.as_slice())?;
-    if report.matches {
-        println!(rt; "{name} matched")?;
-    } else {
-        print!(rt; "{name}: {}", report.text.as_str())?;
-    }
-    Ok(())
+    compare_listings(&rt)?;
+    print_random_calls(&rt)?;
+    print_words(&rt)
 }

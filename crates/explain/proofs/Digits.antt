@@ -1,5 +1,6 @@
 -- A number's digits stand in a row.
-use Rattle.std.proofs.Common.{◌≡◌, ℕ, zero, suc, ◌+◌, ◌<◌, ◌/◌, ◌%◌, true, false, cond, List, [], ◌∷◌, ◌++◌, decimal}
+use Rattle.std.proofs.Common.{◌≡◌, ℕ, zero, suc, ◌+◌, ◌<◌, ◌/◌, ◌%◌, true, false, cond, List, []}
+use Rattle.std.proofs.Common.{◌∷◌, ◌++◌, decimal}
 use Rattle.std.proofs.Common.{refl, ap, ◌∙◌, arith, ◌==◌, nat_lt, if◌then◌else◌}
 use Rattle.std.specs.Fmt.{digits, digits_onto, digit_glyph}
 use Rattle.std.proofs.lemmas.Bool.Decides.{nat_tests}
@@ -17,13 +18,15 @@ not_feed byte above = grind (arith, nat_tests)
 not_blank : (byte : ℕ) → 32 < byte → (byte == 32) ≡ false
 not_blank byte above = grind (arith, nat_tests)
 
-byte_further : (byte : ℕ) (bytes : List ℕ) → 32 < byte → Keeps in_row bytes in_row → Keeps in_row (byte ∷ bytes) in_row
+byte_further : (byte : ℕ) (bytes : List ℕ) → 32 < byte → Keeps in_row bytes in_row
+    → Keeps in_row (byte ∷ bytes) in_row
 unfolding kept_from
 byte_further byte bytes above kept rest =
     ap (λ b. byte ∷ kept_from (cond b at_start in_row) (bytes ++ rest)) (not_feed byte above)
     ∙ ap (λ t. byte ∷ t) (kept rest)
 
-byte_first : (byte : ℕ) (bytes : List ℕ) → 32 < byte → Keeps in_row bytes in_row → Keeps at_start (byte ∷ bytes) in_row
+byte_first : (byte : ℕ) (bytes : List ℕ) → 32 < byte → Keeps in_row bytes in_row
+    → Keeps at_start (byte ∷ bytes) in_row
 unfolding kept_from
 byte_first byte bytes above kept rest =
     ap
@@ -39,7 +42,8 @@ last_digit n = digit_glyph false (n % 10)
 
 glyph_above : (d : ℕ) → 32 < digit_glyph false d
 glyph_above d =
-    elim (nat_lt d 10) as (λ b. 32 < (if b then 48 + d else 87 + d)) [ true ↦ omega arith | false ↦ omega arith ]
+    elim (nat_lt d 10) as (λ b. 32 < (if b then 48 + d else 87 + d))
+    [ true ↦ omega arith | false ↦ omega arith ]
 
 one_digit : (n : ℕ) (bytes : List ℕ) → Keeps in_row bytes in_row → InRow (last_digit n ∷ bytes)
 one_digit n bytes kept =
@@ -53,7 +57,8 @@ more_digits zero n bytes kept = kept
 more_digits (suc k) n bytes kept =
     let one : InRow (last_digit n ∷ bytes) = one_digit n bytes kept.further in
     elim (n / 10 == 0) as
-    (λ b. InRow (if b then last_digit n ∷ bytes else digits_onto k 10 false (n / 10) (last_digit n ∷ bytes)))
+    (λ b. InRow (if b then last_digit n
+    ∷ bytes else digits_onto k 10 false (n / 10) (last_digit n ∷ bytes)))
     [ true ↦ one | false ↦ more_digits k (n / 10) (last_digit n ∷ bytes) one ]
 
 -- All digits of a number: there is one at least.
@@ -62,5 +67,6 @@ unfolding digits
 decimal_kept n =
     let one : InRow (last_digit n ∷ []) = one_digit n [] (λ rest. refl) in
     elim (n / 10 == 0) as
-    (λ b. InRow (if b then last_digit n ∷ [] else digits_onto 63 10 false (n / 10) (last_digit n ∷ [])))
+    (λ b. InRow (if b then last_digit n
+    ∷ [] else digits_onto 63 10 false (n / 10) (last_digit n ∷ [])))
     [ true ↦ one | false ↦ more_digits 63 (n / 10) (last_digit n ∷ []) one ]

@@ -4,5 +4,4 @@ pub mod Examples
 pub mod Digits
 pub mod Rows
 pub mod Ends
-pub mod Told
-pub mod Files
+pub mod RunRows

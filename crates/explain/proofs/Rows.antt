@@ -15,10 +15,12 @@ use Rattle.explain.proofs.Digits.{decimal_kept}
 use Rattle.explain.proofs.Scan.{Keeps, gives_append}
 
 -- Parts that stand one after another within a row.
-in_turn : (a b : List ℕ) → Keeps in_row a in_row → Keeps in_row b in_row → Keeps in_row (a ++ b) in_row
+in_turn : (a b : List ℕ) → Keeps in_row a in_row → Keeps in_row b in_row
+    → Keeps in_row (a ++ b) in_row
 in_turn a b first second = gives_append in_row in_row in_row a b a b first second
 
-to_end : (a b : List ℕ) → Keeps in_row a in_row → Keeps in_row b at_start → Keeps in_row (a ++ b) at_start
+to_end : (a b : List ℕ) → Keeps in_row a in_row → Keeps in_row b at_start
+    → Keeps in_row (a ++ b) at_start
 to_end a b first second = gives_append in_row in_row at_start a b a b first second
 
 blank : Keeps in_row (codes " ") in_row
@@ -41,7 +43,8 @@ pair_kept word first second kept =
     to_end (decimal second) (codes "\n") (decimal_kept second).further row_ends in
     let then : Keeps in_row (codes " " ++ (decimal second ++ codes "\n")) at_start =
     to_end (codes " ") (decimal second ++ codes "\n") blank last in
-    let both = to_end (decimal first) (codes " " ++ (decimal second ++ codes "\n")) (decimal_kept first).further then in
+    let both = to_end (decimal first) (codes " " ++ (decimal second ++ codes "\n"))
+    (decimal_kept first).further then in
     gives_append at_start in_row at_start word _ word _ kept both
 
 mem_word : Keeps at_start (codes "mem ") in_row
@@ -62,11 +65,14 @@ bad_row_kept fault = pair_kept (codes "bad ") (refusal_number fault.refusal) fau
 answer_kept : (answer : Answer) → Keeps in_row (answer_text answer) in_row
 unfolding kept_from
 answer_kept Done rest = refl
-answer_kept (Val value) rest = in_turn (codes "val") (codes " " ++ decimal value) (λ rest. refl) (number value) rest
+answer_kept (Val value) rest =
+    in_turn (codes "val") (codes " " ++ decimal value) (λ rest. refl) (number value) rest
 answer_kept Wait rest = refl
 answer_kept (Gone cause next) rest =
-    in_turn (codes "gone" ++ (codes " " ++ decimal (cause_number cause))) (codes " " ++ decimal next)
-    (in_turn (codes "gone") (codes " " ++ decimal (cause_number cause)) (λ rest. refl) (number (cause_number cause)))
+    in_turn (codes "gone" ++ (codes " " ++ decimal (cause_number cause)))
+    (codes " " ++ decimal next)
+    (in_turn (codes "gone") (codes " " ++ decimal (cause_number cause)) (λ rest. refl)
+    (number (cause_number cause)))
     (number next) rest
 
 reply_kept : (reply : Result Answer Fault) → Keeps in_row (reply_text reply) in_row
@@ -91,6 +97,8 @@ pub call_row_kept :
 call_row_kept place call reply =
     let last = to_end (reply_text reply) (codes "\n") (reply_kept reply) row_ends in
     let then = to_end (codes " ") (reply_row reply) blank last in
-    let both = to_end (decimal call.warp) (codes " " ++ reply_row reply) (decimal_kept call.warp).further then in
+    let both = to_end (decimal call.warp) (codes " " ++ reply_row reply)
+    (decimal_kept call.warp).further then in
     let all = to_end (codes " " ++ (op_letter call.op ∷ codes " ")) _ (letter_kept call.op) both in
-    gives_append at_start in_row at_start (decimal place) _ (decimal place) _ (decimal_kept place).first all
+    gives_append at_start in_row at_start (decimal place) _ (decimal place) _
+    (decimal_kept place).first all

@@ -1,4 +1,4 @@
--- What a call leaves, by the state of the machine after it.
+-- What a call leaves, read from the state of the machine after it.
 use Rattle.std.specs.Prelude.{◌≡◌, List, map, Option, vec_items}
 use Rattle.std.specs.List.{filter_map}
 use Rattle.std.specs.Option.{option_map}
@@ -6,7 +6,7 @@ use Rattle.protocol.specs.declared.answer.Outcome.{Outcome}
 use Rattle.book.specs.Meaning.{Kind}
 use Rattle.machine.specs.Outcomes.{outcome_of}
 use Rattle.rules.specs.declared.state.Request.{Request}
-use Rattle.rules.specs.State.{Machine, warp_row_of}
+use Rattle.rules.specs.State.{MachineState, warp_row_of}
 use Rattle.explain.specs.declared.after.After.{After}
 use Rattle.explain.specs.declared.after.Settled.{Settled}
 use Rattle.explain.specs.declared.after.Wait.{Wait}
@@ -17,21 +17,24 @@ abbrev pub settled_by : Request → Outcome → Settled
 settled_by request outcome = record { warp = request.warp; line = request.line; outcome = outcome }
 
 module _ {k : Kind} where
-  -- How a request has come out, if it has.
-  abbrev pub settled_of : Machine k → Request → Option Settled
-  settled_of m request = option_map (settled_by request) (outcome_of (warp_row_of m request.warp).phase)
+  -- A request with its outcome, if it is settled.
+  abbrev pub settled_of : MachineState k → Request → Option Settled
+  settled_of m request =
+      option_map (settled_by request) (outcome_of (warp_row_of m request.warp).phase)
 
-  abbrev pub all_settled : Machine k → List Request → List Settled
+  abbrev pub all_settled : MachineState k → List Request → List Settled
   all_settled m waited = filter_map (settled_of m) waited
 
-  -- A request that waits, and on whom.
-  abbrev pub wait_of : Machine k → Request → Wait
-  wait_of m request = record { warp = request.warp; line = request.line; owner = k.owner m.book request.line }
+  -- A waiting request, with the warp that has its line.
+  abbrev pub wait_of : MachineState k → Request → Wait
+  wait_of m request =
+      record { warp = request.warp; line = request.line; owner = k.owner m.book request.line }
 
-  abbrev pub all_waits : Machine k → List Wait
+  abbrev pub all_waits : MachineState k → List Wait
   all_waits m = map (wait_of m) (all_waiting m)
 
-  -- Facts are what a call has left in the machine; the requests that waited before it are given.
-  pub record IsAfter (m : Machine k) (waited : List Request) (facts : After) : Type 0 where
+  -- The facts are what a call has left in the machine. The requests that waited before it are
+  -- given.
+  pub record IsAfter (m : MachineState k) (waited : List Request) (facts : After) : Type 0 where
     pub settled : vec_items facts.settled ≡ all_settled m waited
     pub waits : vec_items facts.waits ≡ all_waits m

@@ -1,4 +1,4 @@
--- What a call meets, by the state of the machine before it.
+-- What a call finds, read from the state of the machine before it.
 use Rattle.std.specs.Prelude.{◌≡◌, ℕ, Some, None, Option, vec_items}
 use Rattle.std.specs.Option.{option_map}
 use Rattle.protocol.specs.declared.call.Call.{Call}
@@ -7,16 +7,15 @@ use Rattle.protocol.specs.declared.call.Op.TheVariants.{Begin, Load, Store, Comm
 use Rattle.book.specs.Meaning.{Kind}
 use Rattle.rules.specs.declared.state.Access.TheVariants.{Read, Write}
 use Rattle.rules.specs.declared.state.Request.{Request}
-use Rattle.rules.specs.Access.{Verdict}
+use Rattle.rules.specs.declared.verdict.Verdict.{Verdict}
 use Rattle.rules.specs.Queue.{Policy, request_of}
-use Rattle.rules.specs.State.{Machine, warp_row_of}
+use Rattle.rules.specs.State.{MachineState, warp_row_of}
 use Rattle.rules.specs.Steps.{verdict_at}
-use Rattle.machine.specs.Verdicts.{verdict_as}
 use Rattle.explain.specs.declared.before.Before.{Before}
 use Rattle.explain.specs.declared.before.LineFacts.{LineFacts}
 use Rattle.explain.specs.Waiting.{all_waiting}
 
--- A line, as a book tells it.
+-- What a book says of a line.
 abbrev pub line_facts : (k : Kind) → k.State → ℕ → LineFacts
 line_facts k book line =
     record {
@@ -28,8 +27,8 @@ line_facts k book line =
     }
 
 module _ {k : Kind} where
-  -- What the access steps say of a load or a store; nothing of other calls.
-  abbrev pub verdict_for : Policy k → Machine k → ℕ → Op → Option Verdict
+  -- The verdict of the access steps on a load or a store; none for other calls.
+  abbrev pub verdict_for : Policy k → MachineState k → ℕ → Op → Option Verdict
   verdict_for policy m w Begin = None
   verdict_for policy m w (Load line) = Some (verdict_at policy m w line Read)
   verdict_for policy m w (Store line value) = Some (verdict_at policy m w line (Write value))
@@ -37,28 +36,29 @@ module _ {k : Kind} where
   verdict_for policy m w Drop = None
   verdict_for policy m w Fetch = None
 
-  abbrev pub verdict_met : Policy k → Machine k → Call → Option Verdict
-  verdict_met policy m call = verdict_for policy m call.warp call.op
+  abbrev pub verdict_before : Policy k → MachineState k → Call → Option Verdict
+  verdict_before policy m call = verdict_for policy m call.warp call.op
 
   -- The line that a warp waits for.
-  abbrev pub line_waited : Machine k → ℕ → Option ℕ
-  line_waited m w = option_map (λ (r : Request). r.line) (request_of m.queue w)
+  abbrev pub waited_line : MachineState k → ℕ → Option ℕ
+  waited_line m w = option_map (λ (r : Request). r.line) (request_of m.queue w)
 
-  -- The line that is asked for, or else the one that the warp waits for.
-  abbrev pub line_for : Machine k → ℕ → Op → Option ℕ
-  line_for m w Begin = line_waited m w
+  -- The line that the call names, or else the one that its warp waits for.
+  abbrev pub line_for : MachineState k → ℕ → Op → Option ℕ
+  line_for m w Begin = waited_line m w
   line_for m w (Load line) = Some line
   line_for m w (Store line value) = Some line
-  line_for m w Commit = line_waited m w
-  line_for m w Drop = line_waited m w
-  line_for m w Fetch = line_waited m w
+  line_for m w Commit = waited_line m w
+  line_for m w Drop = waited_line m w
+  line_for m w Fetch = waited_line m w
 
-  abbrev pub line_met : Machine k → Call → Option LineFacts
-  line_met m call = option_map (line_facts k m.book) (line_for m call.warp call.op)
+  abbrev pub line_before : MachineState k → Call → Option LineFacts
+  line_before m call = option_map (line_facts k m.book) (line_for m call.warp call.op)
 
-  -- Facts are what a call of the machine meets.
-  pub record IsBefore (policy : Policy k) (m : Machine k) (call : Call) (facts : Before) : Type 0 where
+  -- The facts are what a call finds in the machine.
+  pub record IsBefore (policy : Policy k) (m : MachineState k) (call : Call) (facts : Before) :
+      Type 0 where
     pub stamp : facts.stamp ≡ (warp_row_of m call.warp).stamp
-    pub verdict : option_map verdict_as facts.verdict ≡ verdict_met policy m call
-    pub line : facts.line ≡ line_met m call
+    pub verdict : facts.verdict ≡ verdict_before policy m call
+    pub line : facts.line ≡ line_before m call
     pub waiting : vec_items facts.waiting ≡ all_waiting m

@@ -1,17 +1,17 @@
-//! What a call leaves: facts that are read off the machine after the call.
+//! What a call leaves: facts that are read from the machine after the call.
 ghost use Rattle.std.specs.Prelude.{◌≡◌, IfOk};
 ghost use Rattle.machine.specs.Meaning.{state};
 ghost use Rattle.explain.specs.After.{IsAfter, settled_of, all_settled, wait_of, all_waits};
 
 use crate::waiting::find_waiting;
-use book::record::Book;
-use machine::state::Machine;
-use memory::store::Memory;
-use protocol::answer::Outcome;
-use rules::state::Request;
+use book::Book;
+use machine::Machine;
+use memory::Memory;
+use protocol::Outcome;
+use rules::Request;
 use std::alloc::{AllocError, Global};
 
-/// A request that has come out of the queue, and how.
+/// A request that is settled, and its outcome.
 #[derive(Clone, Copy)]
 pub struct Settled {
     pub warp: u32,
@@ -19,7 +19,7 @@ pub struct Settled {
     pub outcome: Outcome,
 }
 
-/// A request that waits, and the warp that has its line.
+/// A waiting request, and the warp that has its line.
 #[derive(Clone, Copy)]
 pub struct Wait {
     pub warp: u32,
@@ -30,20 +30,20 @@ pub struct Wait {
 /// What a call leaves.
 #[derive(Drop)]
 pub struct After {
-    /// Of the requests that waited before the call, those that have come out.
+    /// The requests that waited before the call and are settled now.
     pub settled: Vec<Settled>,
-    /// Who waits now, and on whom, by the warps' numbers.
+    /// The requests that wait now, in the order of their warps' numbers.
     pub waits: Vec<Wait>,
 }
 
-/// Reads off a machine what a call of it has left. The requests that waited before the call are given.
-pub fn look_after<M: Memory, B: Book>(
+/// Reads what a call has left in a machine. The requests that waited before the call are given.
+pub fn facts_after<M: Memory, B: Book>(
     heap: Global,
     machine: &Machine<M, B>,
     waited: &[Request],
 ) -> Result<After, AllocError>
     ensures { IfOk result
-        (λ facts. IsAfter (state M.Memory.at B.Book.kind B.Book.model machine.now) waited.now facts) }
+        (λ facts. IsAfter (state M.at B.kind B.model machine.now) waited.now facts) }
 {
     Ok(After {
         settled: find_settled(heap, machine, waited)?,
@@ -51,14 +51,14 @@ pub fn look_after<M: Memory, B: Book>(
     })
 }
 
-// Of some requests those that have come out.
+// The requests that waited before the call and are settled now.
 fn find_settled<M: Memory, B: Book>(
     heap: Global,
     machine: &Machine<M, B>,
     waited: &[Request],
 ) -> Result<Vec<Settled>, AllocError>
     ensures { IfOk result (λ v. v.items
-        ≡ all_settled (state M.Memory.at B.Book.kind B.Book.model machine.now) waited.now) }
+        ≡ all_settled (state M.at B.kind B.model machine.now) waited.now) }
 {
     waited
         .iter()
@@ -66,9 +66,9 @@ fn find_settled<M: Memory, B: Book>(
         .collect(heap)
 }
 
-// How a request has come out, if it has.
+// A request with its outcome, if it is settled.
 fn settled_of<M: Memory, B: Book>(machine: &Machine<M, B>, request: Request) -> Option<Settled>
-    ensures { result ≡ settled_of (state M.Memory.at B.Book.kind B.Book.model machine.now) request }
+    ensures { result ≡ settled_of (state M.at B.kind B.model machine.now) request }
 {
     let Request { warp, line, .. } = request;
     let outcome = machine.outcome(warp)?;
@@ -79,13 +79,13 @@ fn settled_of<M: Memory, B: Book>(machine: &Machine<M, B>, request: Request) -> 
     })
 }
 
-// Who waits, and on whom.
+// The waiting requests, each with the warp that has its line.
 fn find_waits<M: Memory, B: Book>(
     heap: Global,
     machine: &Machine<M, B>,
 ) -> Result<Vec<Wait>, AllocError>
     ensures { IfOk result (λ v. v.items
-        ≡ all_waits (state M.Memory.at B.Book.kind B.Book.model machine.now)) }
+        ≡ all_waits (state M.at B.kind B.model machine.now)) }
 {
     let waiting = find_waiting(heap, machine)?;
     waiting
@@ -94,9 +94,9 @@ fn find_waits<M: Memory, B: Book>(
         .collect(heap)
 }
 
-// A request that waits, and on whom.
+// A waiting request, with the warp that has its line.
 fn wait_of<M: Memory, B: Book>(machine: &Machine<M, B>, request: Request) -> Wait
-    ensures { result ≡ wait_of (state M.Memory.at B.Book.kind B.Book.model machine.now) request }
+    ensures { result ≡ wait_of (state M.at B.kind B.model machine.now) request }
 {
     let Request { warp, line, .. } = request;
     Wait {

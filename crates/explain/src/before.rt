@@ -1,20 +1,17 @@
-//! What a call meets: facts that are read off the machine before the call.
+//! What a call finds: facts that are read from the machine before the call.
 ghost use Rattle.std.specs.Prelude.{◌≡◌, IfOk};
-ghost use Rattle.std.specs.Option.{option_map};
 ghost use Rattle.machine.specs.Meaning.{state, policy_of};
-ghost use Rattle.machine.specs.Verdicts.{verdict_as};
-ghost use Rattle.explain.specs.Before.{verdict_met, line_met, line_facts, IsBefore};
+ghost use Rattle.explain.specs.Before.{verdict_before, line_before, line_facts, IsBefore};
 
 use crate::waiting::find_waiting;
-use book::record::Book;
-use machine::state::Machine;
-use machine::verdict::Verdict;
-use memory::store::Memory;
-use protocol::call::{Call, Op};
-use rules::state::{Access, Request};
+use book::Book;
+use machine::Machine;
+use memory::Memory;
+use protocol::{Call, Op};
+use rules::{Access, Request, Verdict};
 use std::alloc::{AllocError, Global};
 
-/// A line, as the book tells it.
+/// What the book says of a line.
 #[derive(Clone, Copy)]
 pub struct LineFacts {
     pub line: u32,
@@ -22,32 +19,33 @@ pub struct LineFacts {
     pub written: u32,
     /// Its read mark, a pair of stamp and warp.
     pub read: (u32, u32),
-    /// How many stores hold it.
+    /// The number of stores that hold it.
     pub stores: u32,
     /// The warp that has it.
     pub owner: Option<u32>,
 }
 
-/// What a call meets.
+/// What a call finds.
 #[derive(Drop)]
 pub struct Before {
     /// The stamp of the call's warp.
     pub stamp: u64,
-    /// What the access steps say of a load or a store; nothing of other calls.
+    /// The verdict of the access steps on a load or a store; none for other calls.
     pub verdict: Option<Verdict>,
     /// The line that the call names, or else the one that its warp waits for.
     pub line: Option<LineFacts>,
-    /// The requests that wait, by their warps' numbers.
+    /// The waiting requests, in the order of their warps' numbers.
     pub waiting: Vec<Request>,
 }
 
-/// Reads off a machine what a call of it will meet.
-pub fn look_before<M: Memory, B: Book>(
+/// Reads what a call will find in a machine.
+pub fn facts_before<M: Memory, B: Book>(
     heap: Global,
     machine: &Machine<M, B>,
     call: Call,
 ) -> Result<Before, AllocError>
-    ensures { IfOk result (λ facts. IsBefore (policy_of B.Book.kind machine.now) (state M.Memory.at B.Book.kind B.Book.model machine.now) call facts) }
+    ensures { IfOk result (λ facts. IsBefore (policy_of B.kind machine.now)
+        (state M.at B.kind B.model machine.now) call facts) }
 {
     Ok(Before {
         stamp: machine.stamp(call.warp),
@@ -57,10 +55,10 @@ pub fn look_before<M: Memory, B: Book>(
     })
 }
 
-// What the access steps say of a load or a store; nothing of other calls.
+// The verdict of the access steps on a load or a store; none for other calls.
 fn find_verdict<M: Memory, B: Book>(machine: &Machine<M, B>, call: Call) -> Option<Verdict>
-    ensures { option_map verdict_as result
-        ≡ verdict_met (policy_of B.Book.kind machine.now) (state M.Memory.at B.Book.kind B.Book.model machine.now) call }
+    ensures { result
+        ≡ verdict_before (policy_of B.kind machine.now) (state M.at B.kind B.model machine.now) call }
 {
     let Call { warp, op } = call;
     match op {
@@ -80,7 +78,7 @@ fn find_verdict<M: Memory, B: Book>(machine: &Machine<M, B>, call: Call) -> Opti
 
 // The line that a call names, or else the one that its warp waits for.
 fn find_line<M: Memory, B: Book>(machine: &Machine<M, B>, call: Call) -> Option<LineFacts>
-    ensures { result ≡ line_met (state M.Memory.at B.Book.kind B.Book.model machine.now) call }
+    ensures { result ≡ line_before (state M.at B.kind B.model machine.now) call }
 {
     match call.op {
         Op::Load { line } | Op::Store { line, .. } => Some(line_facts(machine.book(), line)),
@@ -90,9 +88,9 @@ fn find_line<M: Memory, B: Book>(machine: &Machine<M, B>, call: Call) -> Option<
     }
 }
 
-// A line, as a book tells it.
+// What a book says of a line.
 fn line_facts<B: Book>(book: &B, line: u32) -> LineFacts
-    ensures { result ≡ line_facts B.Book.kind (B.Book.model book.now) line }
+    ensures { result ≡ line_facts B.kind (B.model book.now) line }
 {
     LineFacts {
         line,

@@ -1,4 +1,4 @@
-//! The end of an explanation: the memory, or what is wrong with the file.
+//! The end of an explanation: the values of the lines, or what is wrong with the file.
 ghost use Rattle.std.specs.Prelude.{IfOk, string_bytes};
 ghost use Rattle.listing.specs.Rows.{bad_row, mem_row};
 ghost use Rattle.listing.specs.Listing.{end_rows, line_row, mem_rows};
@@ -6,14 +6,14 @@ ghost use Rattle.explain.specs.Notes.{AddsRow, AddsRows};
 
 use crate::note::add_note;
 use crate::words::{Damage, LineAtEnd};
-use book::record::Book;
+use book::Book;
 use listing::text::{add_bad_row, add_mem_row};
-use machine::state::Machine;
-use memory::store::Memory;
-use protocol::fault::Fault;
+use machine::Machine;
+use memory::Memory;
+use protocol::Fault;
 use std::alloc::{AllocError, Global};
 
-/// The text with the end: what is wrong with the file, or else the lines below a limit.
+/// Adds the end to the text: what is wrong with the file, or else the lines below a limit.
 pub(crate) fn add_end<M: Memory, B: Book>(
     heap: Global,
     text: String,
@@ -21,24 +21,24 @@ pub(crate) fn add_end<M: Memory, B: Book>(
     found: Option<Fault>,
     limit: u32,
 ) -> Result<String, AllocError>
-    ensures { IfOk result (λ t. AddsRows (end_rows found (M.Memory.at machine.now.memory) limit)
+    ensures { IfOk result (λ t. AddsRows (end_rows found (M.at machine.now.memory) limit)
         (string_bytes text) (string_bytes t)) }
 {
     match found {
-        Some(fault) => add_fault(heap, text, fault),
+        Some(fault) => add_damage(heap, text, fault),
         None => add_lines(heap, text, machine, limit),
     }
 }
 
-/// The text with what is wrong with a file.
-pub(crate) fn add_fault(heap: Global, mut text: String, fault: Fault) -> Result<String, AllocError>
+/// Adds what is wrong with a file.
+pub(crate) fn add_damage(heap: Global, mut text: String, fault: Fault) -> Result<String, AllocError>
     ensures { IfOk result (λ t. AddsRow (bad_row fault) (string_bytes text) (string_bytes t)) }
 {
     add_bad_row(&mut text, fault)?;
     add_note(heap, text, &Damage { fault })
 }
 
-// The text with each line below a limit that the machine's memory has.
+// Adds each line below a limit that the machine's memory has.
 #[tactic(auto, using(crate::proofs::Ends::no_rows, crate::proofs::Ends::one_row_more))]
 fn add_lines<M: Memory, B: Book>(
     heap: Global,
@@ -46,7 +46,7 @@ fn add_lines<M: Memory, B: Book>(
     machine: &Machine<M, B>,
     limit: u32,
 ) -> Result<String, AllocError>
-    ensures { IfOk result (λ t. AddsRows (mem_rows (M.Memory.at machine.now.memory) limit)
+    ensures { IfOk result (λ t. AddsRows (mem_rows (M.at machine.now.memory) limit)
         (string_bytes text) (string_bytes t)) }
 {
     let mut all = text;
@@ -56,14 +56,14 @@ fn add_lines<M: Memory, B: Book>(
     Ok(all)
 }
 
-// The text with a line, if the memory has it.
+// Adds a line, if the memory has it.
 fn add_line<M: Memory, B: Book>(
     heap: Global,
     text: String,
     machine: &Machine<M, B>,
     line: u32,
 ) -> Result<String, AllocError>
-    ensures { IfOk result (λ t. AddsRows (line_row line (M.Memory.at machine.now.memory line))
+    ensures { IfOk result (λ t. AddsRows (line_row line (M.at machine.now.memory line))
         (string_bytes text) (string_bytes t)) }
 {
     match machine.value(line) {
@@ -72,9 +72,10 @@ fn add_line<M: Memory, B: Book>(
     }
 }
 
-// The text with a line's value.
+// Adds a line's value.
 fn add_value(heap: Global, mut text: String, at_end: LineAtEnd) -> Result<String, AllocError>
-    ensures { IfOk result (λ t. AddsRow (mem_row at_end.line at_end.value) (string_bytes text) (string_bytes t)) }
+    ensures { IfOk result (λ t. AddsRow (mem_row at_end.line at_end.value)
+        (string_bytes text) (string_bytes t)) }
 {
     add_mem_row(&mut text, at_end.line, at_end.value)?;
     add_note(heap, text, &at_end)

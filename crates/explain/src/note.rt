@@ -1,12 +1,12 @@
-//! Notes: what stands under a row, indented.
+//! Notes: the indented lines under a row.
 ghost use Rattle.std.specs.Prelude.{◌≡◌, ◌++◌, IfOk, string_bytes};
 ghost use Rattle.explain.specs.Notes.{AddsNote, indented_line};
 
 use std::alloc::{AllocError, Global};
 use std::fmt;
 
-/// The text with a note: each line of its words is indented by four blanks. Where memory is wanting, the text is given
-/// up.
+/// Adds a note to the text, each of its lines indented by four blanks. If memory runs out, the text
+/// is lost.
 #[tactic(auto, using(crate::proofs::Lines::no_line, crate::proofs::Lines::one_more, crate::proofs::Lines::no_feed))]
 pub fn add_note(heap: Global, text: String, note: &impl fmt::Display) -> Result<String, AllocError>
     ensures { IfOk result (λ t. AddsNote (string_bytes text) (string_bytes t)) }
@@ -19,7 +19,7 @@ pub fn add_note(heap: Global, text: String, note: &impl fmt::Display) -> Result<
     Ok(all)
 }
 
-// The text with a line of a note.
+// Adds a line of a note.
 fn add_line(mut text: String, line: &str) -> Result<String, AllocError>
     ensures { IfOk result (λ t. string_bytes t ≡ string_bytes text ++ indented_line line.now) }
 {

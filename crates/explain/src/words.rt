@@ -1,23 +1,24 @@
-//! The facts in words.
+//! Facts in words.
 use crate::after::{After, Settled, Wait};
-use crate::before::{Before, LineFacts};
+use crate::answer_words::{AnswerInWords, ReplyInWords, refusal_words};
+use crate::before::LineFacts;
 use crate::call::CallFacts;
-use machine::verdict::Verdict;
-use protocol::answer::Cause;
-use protocol::fault::Fault;
+use crate::call_words::CallInWords;
+use protocol::{Cause, Fault};
+use rules::Verdict;
 use std::fmt;
-use wording::answers::{AnswerInWords, ReplyInWords, refusal_words};
-use wording::calls::CallInWords;
 
-/// A call and its answer, and then, each on lines of its own, what it met and what it left.
+/// A call and its answer, and then, each on lines of its own, what it found and what it left.
 impl fmt::Display for CallFacts {
     fn fmt<W: fmt::Write>(&self, f: &mut fmt::Formatter<W>) -> fmt::Result {
         let call = CallInWords { call: self.call };
         let reply = ReplyInWords { reply: self.reply };
         writeln!(f, "{call}: {reply}")?;
-        // The checks that refuse a call come before the access steps.
-        if self.reply.is_ok() {
-            write_step(f, &self.before)?;
+        // A refused call does not reach the access steps.
+        if self.reply.is_ok()
+            && let Some(verdict) = self.before.verdict
+        {
+            writeln!(f, "at stamp {}, {}", self.before.stamp, step_words(verdict))?;
         }
         if let Some(line) = self.before.line {
             writeln!(f, "{line}")?;
@@ -27,36 +28,23 @@ impl fmt::Display for CallFacts {
     }
 }
 
-// The step that decided a load or a store, at its warp's stamp.
-fn write_step<W: fmt::Write>(f: &mut fmt::Formatter<W>, before: &Before) -> fmt::Result {
-    match before.verdict {
-        Some(verdict) => { writeln!(f, "at stamp {}, {}", before.stamp, step_words(verdict)) }
-        None => Ok(()),
-    }
-}
-
-/// The access step that a verdict comes from.
+/// The access step that gave a verdict.
 pub fn step_words(verdict: Verdict) -> &'static str {
     match verdict {
         Verdict::OwnLine => "step 1: its warp has the line",
-        Verdict::Lost { cause, .. } => lost_words(cause),
+        Verdict::Gone { cause, .. } => match cause {
+            Cause::WrittenLater => "step 2: the line's write stamp is above its own",
+            Cause::ReadLater => "step 3: the line's read mark is later than its own time",
+            Cause::QueueFull =>
+                "step 4: another warp has the line, and there is no room to wait for it",
+            Cause::NoSlot => "step 5: no warp has the line, and there is no slot for it",
+        },
         Verdict::MustWait => "step 4: another warp has the line, and there is room to wait for it",
         Verdict::GoOn => "step 5: no warp has the line",
     }
 }
 
-// The access step at which a transaction is lost.
-fn lost_words(cause: Cause) -> &'static str {
-    match cause {
-        Cause::WrittenLater => "step 2: the line's write stamp is above its own",
-        Cause::ReadLater => "step 3: the line's read mark is later than its own time",
-        Cause::QueueFull =>
-            "step 4: another warp has the line, and there is no room to wait for it",
-        Cause::NoSlot => "step 5: no warp has the line, and there is no slot for it",
-    }
-}
-
-/// A line before a call, in two lines of words.
+/// What the book says of a line before a call, in two lines of words.
 impl fmt::Display for LineFacts {
     fn fmt<W: fmt::Write>(&self, f: &mut fmt::Formatter<W>) -> fmt::Result {
         let LineFacts {

@@ -1,6 +1,9 @@
-//! What the words after the program's name ask for.
+//! The command line.
 ghost use Rattle.std.specs.Prelude.{◌≡◌, Some};
-ghost use Rattle.golden.specs.Asking.{texts, name_in, calls_in, alone, compared, asked, calls_of, command_of, told, slip_text};
+ghost use Rattle.std.specs.Result.{result_map_both};
+ghost use Rattle.golden.specs.Commands.{action_alone, action_named, compare_named, file_name};
+ghost use Rattle.golden.specs.Commands.{input_named, action_of, input_of, misuse_of};
+ghost use Rattle.golden.specs.Commands.{texts, usage_text};
 
 use std::error::Error;
 use std::fmt;
@@ -25,24 +28,24 @@ pub enum Command<'a> {
     Version,
 }
 
-/// Why the words ask for nothing.
+/// Why a command line is refused.
 #[derive(Clone, Copy, PartialEq, Eq, Debug)]
 pub enum UsageError<'a> {
-    UnknownWord { word: &'a str },
-    TooManyWords { word: &'a str },
+    UnknownOption { word: &'a str },
+    ExtraWord { word: &'a str },
     NoListing,
 }
 
 impl fmt::Display for UsageError<'_> {
-    ghost output = { λ error. Some (slip_text error) };
+    ghost output = { λ error. Some (usage_text error) };
 
     fn fmt<W: fmt::Write>(&self, f: &mut fmt::Formatter<W>) -> fmt::Result {
         match *self {
-            UsageError::UnknownWord { word } => write!(
+            UsageError::UnknownOption { word } => write!(
                 f,
                 "there is no option {word}, see golden --help"
             ),
-            UsageError::TooManyWords { word } => write!(
+            UsageError::ExtraWord { word } => write!(
                 f,
                 "{word} is a word too many, see golden --help"
             ),
@@ -53,9 +56,9 @@ impl fmt::Display for UsageError<'_> {
 
 impl Error for UsageError<'_> {}
 
-/// What the words ask for.
-pub fn read_command(words: &[String]) -> Result<Command<'_>, UsageError<'_>>
-    ensures { told command_of result ≡ asked (texts words.now) }
+/// Reads the words after the program's name.
+pub fn parse_command(words: &[String]) -> Result<Command<'_>, UsageError<'_>>
+    ensures { result_map_both action_of misuse_of result ≡ action_named (texts words.now) }
 {
     let Some((first, rest)) = words.split_first() else {
         return Ok(Command::List {
@@ -66,58 +69,59 @@ pub fn read_command(words: &[String]) -> Result<Command<'_>, UsageError<'_>>
         "--help" => alone(rest, Command::Help),
         "--version" => alone(rest, Command::Version),
         "--explain" => Ok(Command::Explain {
-            calls: read_source(rest)?,
+            calls: parse_source(rest)?,
         }),
-        "--compare" => read_compare(rest),
+        "--compare" => parse_compare(rest),
         _ => Ok(Command::List {
-            calls: read_source(words)?,
+            calls: parse_source(words)?,
         }),
     }
 }
 
-// A command that no word may follow.
+// A command that takes no further words.
 fn alone<'a>(rest: &'a [String], command: Command<'a>) -> Result<Command<'a>, UsageError<'a>>
-    ensures { told command_of result ≡ alone (command_of command.entry) (texts rest.now) }
+    ensures { result_map_both action_of misuse_of result
+        ≡ action_alone (action_of command.entry) (texts rest.now) }
 {
     match rest.first() {
         None => Ok(command),
-        Some(word) => Err(UsageError::TooManyWords {
+        Some(word) => Err(UsageError::ExtraWord {
             word: word.as_str(),
         }),
     }
 }
 
-// A listing's file, and where the calls come from.
-fn read_compare(rest: &[String]) -> Result<Command<'_>, UsageError<'_>>
-    ensures { told command_of result ≡ compared (texts rest.now) }
+// The words after --compare: a listing's file, and where the calls come from.
+fn parse_compare(rest: &[String]) -> Result<Command<'_>, UsageError<'_>>
+    ensures { result_map_both action_of misuse_of result ≡ compare_named (texts rest.now) }
 {
     let (first, rest) = rest.split_first().ok_or(UsageError::NoListing)?;
-    let listing = read_path(first.as_str())?;
-    let calls = read_source(rest)?;
+    let listing = parse_path(first.as_str())?;
+    let calls = parse_source(rest)?;
     Ok(Command::Compare { listing, calls })
 }
 
-// Where the calls come from: the one file that is named, or standard input.
-fn read_source(words: &[String]) -> Result<Source<'_>, UsageError<'_>>
-    ensures { told calls_of result ≡ calls_in (texts words.now) }
+// The one file that is named, or standard input if none is.
+fn parse_source(words: &[String]) -> Result<Source<'_>, UsageError<'_>>
+    ensures { result_map_both input_of misuse_of result ≡ input_named (texts words.now) }
 {
     match words {
         [] => Ok(Source::StandardInput),
         [word] => Ok(Source::File {
-            path: read_path(word.as_str())?,
+            path: parse_path(word.as_str())?,
         }),
-        [_, word, ..] => Err(UsageError::TooManyWords {
+        [_, word, ..] => Err(UsageError::ExtraWord {
             word: word.as_str(),
         }),
     }
 }
 
 // A file's name. A word that begins with a dash is an option and names no file.
-fn read_path(word: &str) -> Result<&str, UsageError<'_>>
-    ensures { told (λ name. name.now) result ≡ name_in word.now }
+fn parse_path(word: &str) -> Result<&str, UsageError<'_>>
+    ensures { result_map_both (λ path. path.now) misuse_of result ≡ file_name word.now }
 {
     match word.as_bytes() {
-        [b'-', ..] => Err(UsageError::UnknownWord { word }),
+        [b'-', ..] => Err(UsageError::UnknownOption { word }),
         _ => Ok(word),
     }
 }

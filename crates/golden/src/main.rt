@@ -1,13 +1,13 @@
-//! Turns a calls file into its listing, explains it, and compares other listings with it.
+//! Lists the calls of a file, explains them, and compares other listings with theirs.
 #![tactic(auto)]
 
 ghost use Rattle.std.specs.Io.{ReadsAtMost};
 
 use anyhow::Context;
-use command::{Command, Source, read_command};
-use explain::explain::explain;
-use listing::listing::{enough_bytes, list};
-use report::report::make_report;
+use command::{Command, Source, parse_command};
+use explain::annotate;
+use listing::{enough_bytes, list};
+use report::compare_listing;
 use std::fs::File;
 use std::io::{Read, Write};
 use std::process::ExitCode;
@@ -15,17 +15,17 @@ use std::{env, io};
 
 mod command;
 
-/// The level of the machine's rules. A change by which some calls file has another listing raises it.
+/// The level of the machine's rules. A change that gives any calls file another listing raises it.
 const RULES_LEVEL: u32 = 1;
 
-/// The Rattle that everything here is proved with, as its command `rt version` prints it.
+/// The version of Rattle that this repository is proved with, as `rt version` prints it.
 const KIT: &str = "rattle-kit-13f logic dac8208d650f15bf";
 
-/// A read asks for so many bytes. Room for them is filled with zeros first: up to so many, C's library does that by wide
-/// stores, and for more by an instruction that repeats for each byte.
+/// The number of bytes per read. The buffer is zeroed first, and above this size the C library does
+/// that byte by byte.
 const READ_BYTES: usize = 2048;
 
-/// No listing is as long.
+/// More bytes than any listing has.
 const ENOUGH_OF_A_LISTING: u64 = 1 << 20;
 
 const HELP: &str = "\
@@ -49,18 +49,18 @@ fn main(rt: HostRuntime) -> ExitCode {
     })
 }
 
-// Does what the words after the program's name ask for. Nothing is written before all of it is there.
+// Executes the command line. Nothing is written before the whole text is there.
 fn answer(rt: &HostRuntime) -> anyhow::Result<ExitCode> {
     let heap = rt.alloc();
     let words: Vec<String> = env::args(rt)?.skip(1).collect(heap)?;
-    match read_command(words.as_slice())? {
+    match parse_command(words.as_slice())? {
         Command::List { calls } => {
             let bytes = read_calls(rt, calls)?;
             write_text(rt, list(heap, bytes.as_slice())?.as_str())
         }
         Command::Explain { calls } => {
             let bytes = read_calls(rt, calls)?;
-            write_text(rt, explain(heap, bytes.as_slice())?.as_str())
+            write_text(rt, annotate(heap, bytes.as_slice())?.as_str())
         }
         Command::Compare { listing, calls } => compare(rt, listing, calls),
         Command::Help => write_text(rt, HELP),
@@ -71,11 +71,11 @@ fn answer(rt: &HostRuntime) -> anyhow::Result<ExitCode> {
     }
 }
 
-// A listing that differs is no error, and has status 1.
+// A listing that differs is no error, but has status 1.
 fn compare(rt: &HostRuntime, listing: &str, calls: Source) -> anyhow::Result<ExitCode> {
     let listing = read_file(rt, listing, ENOUGH_OF_A_LISTING)?;
     let bytes = read_calls(rt, calls)?;
-    let report = make_report(rt.alloc(), bytes.as_slice(), listing.as_slice())?;
+    let report = compare_listing(rt.alloc(), bytes.as_slice(), listing.as_slice())?;
     write_text(rt, report.text.as_str())?;
     Ok(if report.matches {
         ExitCode::SUCCESS
@@ -84,7 +84,7 @@ fn compare(rt: &HostRuntime, listing: &str, calls: Source) -> anyhow::Result<Exi
     })
 }
 
-// No more is read of the calls than can change what is told of them.
+// Reads only as many bytes of the calls as can change their listing.
 fn read_calls(rt: &HostRuntime, calls: Source) -> anyhow::Result<Vec<u8>> {
     let limit = enough_bytes() as u64;
     match calls {
@@ -101,7 +101,8 @@ fn open_front(rt: &HostRuntime, path: &str, limit: u64) -> io::Result<Vec<u8>> {
     read_front(rt, File::open(rt, path)?, limit)
 }
 
-// The first bytes of the input. Each turn but the last reads a byte or more, so there are turns enough.
+// The first bytes of the input, up to a limit. Each turn but the last reads at least one byte, so
+// the turns suffice.
 fn read_front<R: Read + Drop>(rt: &HostRuntime, input: R, limit: u64) -> io::Result<Vec<u8>> {
     let mut input = input.take(limit);
     let mut bytes = Vec::new(rt.alloc());
@@ -113,7 +114,7 @@ fn read_front<R: Read + Drop>(rt: &HostRuntime, input: R, limit: u64) -> io::Res
     Ok(bytes)
 }
 
-// Reads on behind the bytes that are there, and returns how many came: none at the end of the input.
+// Reads more bytes onto the end, and returns how many: none at the end of the input.
 fn read_more<R: Read>(input: &mut R, bytes: &mut Vec<u8>) -> io::Result<usize> {
     let filled = bytes.len();
     bytes.resize(filled + READ_BYTES, 0)?;
@@ -122,7 +123,7 @@ fn read_more<R: Read>(input: &mut R, bytes: &mut Vec<u8>) -> io::Result<usize> {
     Ok(count)
 }
 
-// One read. A read that a signal interrupts is tried again.
+// One read. It is tried again if a signal interrupts it.
 fn read_retrying<R: Read>(input: &mut R, room: &mut [u8]) -> io::Result<usize>
     ensures { ReadsAtMost result room.new }
 {

@@ -9,13 +9,14 @@ use Rattle.protocol.specs.declared.fault.Fault.{Fault}
 
 -- A row of a word and two numbers.
 abbrev pub pair_row : List ℕ → ℕ → ℕ → List ℕ
-pair_row word first second = word ++ (decimal first ++ (codes " " ++ (decimal second ++ codes "\n")))
+pair_row word first second =
+    word ++ (decimal first ++ (codes " " ++ (decimal second ++ codes "\n")))
 
 -- A line's number and its value at the end of a run.
 abbrev pub mem_row : ℕ → ℕ → List ℕ
 mem_row line value = pair_row (codes "mem ") line value
 
--- What is wrong with a calls file: the refusal's number and the byte's place.
+-- What is wrong with a calls file: the refusal's number and the place of the byte.
 abbrev pub bad_row : Fault → List ℕ
 bad_row fault = pair_row (codes "bad ") (refusal_number fault.refusal) fault.number
 
@@ -23,8 +24,10 @@ bad_row fault = pair_row (codes "bad ") (refusal_number fault.refusal) fault.num
 abbrev pub reply_row : Result Answer Fault → List ℕ
 reply_row reply = reply_text reply ++ codes "\n"
 
--- A call's row: its place in the run, from 1, its letter, its warp, and its answer or its refusal.
+-- A call's row: its place in the run, counted from 1, its letter, its warp, and its answer or its
+-- refusal.
 abbrev pub call_row : ℕ → Call → Result Answer Fault → List ℕ
 call_row place call reply =
     decimal place
-    ++ ((codes " " ++ (op_letter call.op ∷ codes " ")) ++ (decimal call.warp ++ (codes " " ++ reply_row reply)))
+    ++ ((codes " " ++ (op_letter call.op ∷ codes " "))
+    ++ (decimal call.warp ++ (codes " " ++ reply_row reply)))

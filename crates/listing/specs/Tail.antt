@@ -1,4 +1,4 @@
--- The end of a row, as far as it is written.
+-- The part of a row that is written so far.
 use Rattle.std.specs.Prelude.{ℕ, List, drop}
 use Rattle.listing.specs.declared.row.Tail.{Tail}
 

@@ -1,18 +1,17 @@
-//! A row of text, put together from its end to its start: a number's last digit is the first to be known, so nothing has
-//! to be measured or moved.
-ghost use Rattle.std.specs.Prelude.{◌≡◌, ◌+◌, ◌≤◌, ◌<◌, [], ◌∷◌, ◌++◌, length, drop, decimal, IsUtf8};
+//! A row of text, written from its end to its start: a number's last digit is known first, so
+//! nothing has to be measured or moved.
+ghost use Rattle.std.specs.Prelude.{◌≡◌, ◌+◌, ◌≤◌, ◌<◌, [], ◌∷◌, ◌++◌, length, drop, decimal};
+ghost use Rattle.std.specs.Prelude.{IsUtf8};
 ghost use Rattle.protocol.specs.Answers.{answer_text, reply_text};
 
 use itoa::write_digits;
-use protocol::answer::Answer;
-use protocol::call::Call;
-use protocol::fault::Fault;
+use protocol::{Answer, Call, Fault};
 use std::str;
 
 /// More bytes than any row has.
 const ROOM: usize = 96;
 
-/// The end of a row, as far as it is written.
+/// The end of a row: the part that is written so far.
 #[derive(Drop)]
 pub(crate) struct Tail {
     bytes: [u8; ROOM],
@@ -35,32 +34,33 @@ impl Tail {
         row
     }
 
-    /// The same row, in place of what is written.
+    /// Replaces the row by that of a line's value.
     pub(crate) fn set_line(&mut self, line: u32, value: u32)
         ensures { tail self.new ≡ mem_row line value }
     {
         self.clear();
-        self.byte(b'\n');
-        self.number(u64::from(value));
-        self.byte(b' ');
-        self.number(u64::from(line));
-        self.word("mem ");
+        self.prepend_byte(b'\n');
+        self.prepend_number(u64::from(value));
+        self.prepend_byte(b' ');
+        self.prepend_number(u64::from(line));
+        self.prepend_word("mem ");
     }
 
-    /// The row of what is wrong with a calls file.
+    /// The row that says what is wrong with a calls file.
     pub(crate) fn of_damage(fault: Fault) -> Tail
         ensures { tail result ≡ bad_row fault }
     {
         let mut row = Tail::new();
-        row.byte(b'\n');
-        row.number(fault.number);
-        row.byte(b' ');
-        row.number(u64::from(fault.refusal.number()));
-        row.word("bad ");
+        row.prepend_byte(b'\n');
+        row.prepend_number(fault.number);
+        row.prepend_byte(b' ');
+        row.prepend_number(u64::from(fault.refusal.number()));
+        row.prepend_word("bad ");
         row
     }
 
-    /// The row of a call, by its place in the run from 1: its letter, its warp, and its answer or its refusal.
+    /// The row of a call: its place in the run, counted from 1, its letter, its warp, and its
+    /// answer or its refusal.
     pub(crate) fn of_call(place: u64, call: Call, reply: Result<Answer, Fault>) -> Tail
         ensures { tail result ≡ call_row place call reply }
     {
@@ -69,19 +69,19 @@ impl Tail {
         row
     }
 
-    /// The same row, in place of what is written.
+    /// Replaces the row by that of a call.
     pub(crate) fn set_call(&mut self, place: u64, call: &Call, reply: &Result<Answer, Fault>)
         ensures { tail self.new ≡ call_row place call.now reply.now }
     {
         self.clear();
-        self.byte(b'\n');
-        self.reply(*reply);
-        self.byte(b' ');
-        self.number(u64::from(call.warp));
-        self.byte(b' ');
-        self.byte(call.op.letter() as u8);
-        self.byte(b' ');
-        self.number(place);
+        self.prepend_byte(b'\n');
+        self.prepend_reply(*reply);
+        self.prepend_byte(b' ');
+        self.prepend_number(u64::from(call.warp));
+        self.prepend_byte(b' ');
+        self.prepend_byte(call.op.letter() as u8);
+        self.prepend_byte(b' ');
+        self.prepend_number(place);
     }
 
     /// The row's bytes.
@@ -98,7 +98,7 @@ impl Tail {
         str::from_utf8(self.as_bytes()).unwrap()
     }
 
-    /// Nothing of a row yet.
+    /// An empty row.
     pub(crate) fn new() -> Tail
         ensures text { tail result ≡ [] }
         ensures start { result.start ≡ 96 }
@@ -109,7 +109,7 @@ impl Tail {
         }
     }
 
-    // Nothing is written any more.
+    // Removes what is written.
     fn clear(&mut self)
         ensures text { tail self.new ≡ [] }
         ensures start { self.new.start ≡ 96 }
@@ -117,8 +117,8 @@ impl Tail {
         self.start = ROOM;
     }
 
-    // A byte before what is written.
-    fn byte(&mut self, byte: u8)
+    // Writes a byte in front.
+    fn prepend_byte(&mut self, byte: u8)
         requires ascii { byte < 128 }
         requires room { 1 ≤ self.old.start }
         ensures text { tail self.new ≡ byte ∷ tail self.old }
@@ -128,8 +128,8 @@ impl Tail {
         self.bytes[self.start] = byte;
     }
 
-    // A number before what is written, in decimal digits.
-    fn number(&mut self, number: u64)
+    // Writes a number in front, in decimal digits.
+    fn prepend_number(&mut self, number: u64)
         requires room { 20 ≤ self.old.start }
         ensures text { tail self.new ≡ decimal number ++ tail self.old }
         ensures start { self.old.start ≤ self.new.start + 20 }
@@ -138,8 +138,8 @@ impl Tail {
         self.start = write_digits(number, &mut self.bytes, self.start);
     }
 
-    // A word before what is written.
-    fn word(&mut self, word: &str)
+    // Writes a word in front.
+    fn prepend_word(&mut self, word: &str)
         requires room { length word.now ≤ self.old.start }
         ensures text { tail self.new ≡ word.now ++ tail self.old }
         ensures start { self.new.start + length word.now ≡ self.old.start }
@@ -149,41 +149,41 @@ impl Tail {
         self.start = start;
     }
 
-    // What a call comes to, before what is written.
-    fn reply(&mut self, reply: Result<Answer, Fault>)
+    // Writes the answer to a call, or its refusal, in front.
+    fn prepend_reply(&mut self, reply: Result<Answer, Fault>)
         requires room { 46 ≤ self.old.start }
         ensures text { tail self.new ≡ reply_text reply ++ tail self.old }
         ensures start { self.old.start ≤ self.new.start + 46 }
         ensures still { self.new.start ≤ self.old.start }
     {
         match reply {
-            Ok(answer) => self.answer(answer),
+            Ok(answer) => self.prepend_answer(answer),
             Err(fault) => {
-                self.number(u64::from(fault.refusal.number()));
-                self.word("no ");
+                self.prepend_number(u64::from(fault.refusal.number()));
+                self.prepend_word("no ");
             }
         }
     }
 
-    // An answer before what is written.
-    fn answer(&mut self, answer: Answer)
+    // Writes an answer in front.
+    fn prepend_answer(&mut self, answer: Answer)
         requires room { 46 ≤ self.old.start }
         ensures text { tail self.new ≡ answer_text answer ++ tail self.old }
         ensures start { self.old.start ≤ self.new.start + 46 }
         ensures still { self.new.start ≤ self.old.start }
     {
         match answer {
-            Answer::Done => self.word("ok"),
+            Answer::Done => self.prepend_word("ok"),
             Answer::Val { value } => {
-                self.number(u64::from(value));
-                self.word("val ");
+                self.prepend_number(u64::from(value));
+                self.prepend_word("val ");
             }
-            Answer::Wait => self.word("wait"),
+            Answer::Wait => self.prepend_word("wait"),
             Answer::Gone { cause, next } => {
-                self.number(next);
-                self.byte(b' ');
-                self.number(u64::from(cause.number()));
-                self.word("gone ");
+                self.prepend_number(next);
+                self.prepend_byte(b' ');
+                self.prepend_number(u64::from(cause.number()));
+                self.prepend_word("gone ");
             }
         }
     }

@@ -1,14 +1,12 @@
-//! The rows of a listing, one after the other. Whether their bytes are text is asked once, of all of them.
+//! The rows of a listing, one after another, as bytes. They become a text once, at the end.
 ghost use Rattle.std.specs.Prelude.{◌≡◌, ◌++◌, [], OnOk, IsUtf8, string_bytes};
 ghost use Rattle.listing.specs.Listing.{call_rows, line_row, mem_rows};
 
 use crate::row::Tail;
-use book::record::Book;
-use machine::state::Machine;
-use memory::store::Memory;
-use protocol::answer::Answer;
-use protocol::call::Call;
-use protocol::fault::Fault;
+use book::Book;
+use machine::Machine;
+use memory::Memory;
+use protocol::{Answer, Call, Fault};
 use std::alloc::{AllocError, Global};
 
 /// The rows so far.
@@ -21,7 +19,7 @@ pub(crate) struct Rows {
 impl Rows {
     ghost use Rattle.listing.specs.Tail.{tail};
 
-    /// No row yet.
+    /// No rows.
     pub(crate) fn new(heap: Global) -> Rows
         ensures { result.bytes.items ≡ [] }
     {
@@ -30,21 +28,21 @@ impl Rows {
         }
     }
 
-    /// One row more.
+    /// Adds a row.
     pub(crate) fn add(&mut self, row: &Tail) -> Result<(), AllocError>
         ensures { OnOk result (self.new.bytes.items ≡ self.old.bytes.items ++ tail row.now) }
     {
         self.bytes.extend_from_slice(row.as_bytes())
     }
 
-    /// A row for each call and what it came to. The calls are the caller's and the answers the run's, so they come as two
-    /// slices.
+    /// Adds a row for each call with its answer or its refusal.
     pub(crate) fn add_calls(
         &mut self,
         calls: &[Call],
         answers: &[Result<Answer, Fault>],
     ) -> Result<(), AllocError>
-        ensures { OnOk result (self.new.bytes.items ≡ self.old.bytes.items ++ call_rows 1 calls.now answers.now) }
+        ensures { OnOk result (self.new.bytes.items
+            ≡ self.old.bytes.items ++ call_rows 1 calls.now answers.now) }
     {
         let mut row = Tail::new();
         for (i, (call, answer)) in calls.iter().zip(answers).enumerate() {
@@ -54,14 +52,14 @@ impl Rows {
         Ok(())
     }
 
-    /// A row for each line below a limit that the machine's memory has.
+    /// Adds a row for each line below a limit that the machine's memory has.
     pub(crate) fn add_lines<M: Memory, B: Book>(
         &mut self,
         machine: &Machine<M, B>,
         limit: u32,
     ) -> Result<(), AllocError>
         ensures { OnOk result (self.new.bytes.items
-            ≡ self.old.bytes.items ++ mem_rows (M.Memory.at machine.now.memory) limit) }
+            ≡ self.old.bytes.items ++ mem_rows (M.at machine.now.memory) limit) }
     {
         let mut row = Tail::new();
         for line in 0..limit {
@@ -70,7 +68,7 @@ impl Rows {
         Ok(())
     }
 
-    // The row of a line, if the memory has it, written where another may have been.
+    // Adds the row of a line, if the memory has it. `row` is the room to write it in.
     fn add_line<M: Memory, B: Book>(
         &mut self,
         row: &mut Tail,
@@ -78,7 +76,7 @@ impl Rows {
         line: u32,
     ) -> Result<(), AllocError>
         ensures { OnOk result (self.new.bytes.items
-            ≡ self.old.bytes.items ++ line_row line (M.Memory.at machine.now.memory line)) }
+            ≡ self.old.bytes.items ++ line_row line (M.at machine.now.memory line)) }
     {
         match machine.value(line) {
             Ok(value) => {

@@ -1,7 +1,7 @@
 //! Small listings, by example.
 use crate::listing::list;
 use crate::text::add_bad_row;
-use protocol::fault::{Fault, Layer, Refusal};
+use protocol::{Fault, Layer, Refusal};
 use std::alloc::Global;
 use std::process::Abort;
 use std::test::Fail;

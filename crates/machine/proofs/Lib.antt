@@ -1,10 +1,13 @@
-mod Free
-mod Served
-mod Withdrawn
-mod Turning
-mod Ended
-mod Accessed
-mod Granted
-mod Stamps
-mod Made
+mod Searches
+pub mod WarpRows
+mod SoundQueue
+mod TurnOrder
+mod ServeSteps
+mod Withdrawals
+mod Retries
+mod TransactionEnd
+mod AccessSteps
+mod CheckedCalls
+mod LateStamps
+mod FirstRows
 mod Runs

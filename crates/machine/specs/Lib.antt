@@ -1,6 +1,13 @@
+pub mod Requests
+pub mod Logs
+pub mod Phases
+pub mod Rows
+pub mod Soundness
+pub mod Warps
+pub mod Turns
 pub mod Verdicts
 pub mod Meaning
-pub mod Moves
+pub mod CallParts
 pub mod Making
 pub mod Outcomes
 pub mod Running

@@ -6,13 +6,13 @@ use Rattle.protocol.specs.declared.fault.Fault.{Fault}
 use Rattle.memory.specs.Lines.{Lines}
 use Rattle.book.specs.Meaning.{Kind}
 use Rattle.rules.specs.Ledger.{ledger_of}
-use Rattle.rules.specs.Laws.{AccountsAgree, Explained, FetchesTell, TablesAgree, WaitsEnd}
-use Rattle.rules.specs.Queue.{product}
+use Rattle.rules.specs.Laws.{AccountsAgree, IsExplained, FetchesReturn, TablesAgree, WaitsEnd}
+use Rattle.rules.specs.Queue.{product_policy}
 use Rattle.rules.specs.Runs.{Event, Run, run}
-use Rattle.rules.specs.Making.{make}
+use Rattle.rules.specs.Making.{new_machine}
 
 abbrev pub run_of : (k : Kind) → Lines → k.State → List ℕ → List Call → Run k
-run_of k lines book stamps calls = run (product k) (make k lines book stamps) calls
+run_of k lines book stamps calls = run (product_policy k) (new_machine k lines book stamps) calls
 
 -- The calls that are made: as many as there are places for answers.
 abbrev pub calls_made : List Call → List (Result Answer Fault) → List Call
@@ -23,15 +23,15 @@ abbrev pub answers_in : List Event → List (Result Answer Fault)
 answers_in events = map (λ (e : Event). e.answer) events
 
 -- The answers stand in the first places; the rest keep what they had.
-abbrev pub answered : List Event → List (Result Answer Fault) → List (Result Answer Fault)
-answered events places = answers_in events ++ drop (length events) places
+abbrev pub answers_after : List Event → List (Result Answer Fault) → List (Result Answer Fault)
+answers_after events places = answers_in events ++ drop (length events) places
 
--- The laws, of the run.
+-- The laws for one run.
 abbrev pub AccountsOf : {k : Kind} → Lines → Run k → Type 0
 AccountsOf lines r = AccountsAgree lines (ledger_of r.events) r.machine.lines
 
 abbrev pub ExplainedOf : {k : Kind} → Lines → Run k → Type 0
-ExplainedOf lines r = Explained lines (ledger_of r.events) r.machine.lines
+ExplainedOf lines r = IsExplained lines (ledger_of r.events) r.machine.lines
 
 abbrev pub WaitsOf : {k : Kind} → Run k → Type 0
 WaitsOf r = WaitsEnd r.machine (ledger_of r.events)
@@ -40,4 +40,4 @@ abbrev pub TablesOf : {k : Kind} → Run k → Type 0
 TablesOf r = TablesAgree r.machine (ledger_of r.events)
 
 abbrev pub FetchesOf : {k : Kind} → Run k → Type 0
-FetchesOf r = FetchesTell r.events
+FetchesOf r = FetchesReturn r.events

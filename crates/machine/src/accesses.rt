@@ -1,56 +1,53 @@
-//! Loads and stores, by what they meet.
+//! Loads, stores and fetches.
 ghost use Rattle.std.specs.Prelude.{◌≡◌, ◌<◌, ◌≤◌, true, false, Ok};
 ghost use Rattle.protocol.specs.Limits.{line_limit};
 ghost use Rattle.protocol.specs.declared.answer.Answer.TheVariants.{Gone};
-ghost use Rattle.rules.specs.Access.{told};
-ghost use Rattle.rules.specs.Ending.{ends};
+ghost use Rattle.rules.specs.Access.{line_state};
+ghost use Rattle.rules.specs.Ending.{after_end};
 ghost use Rattle.rules.specs.State.{is_waiting, time_of};
-ghost use Rattle.rules.specs.Steps.{accesses, fetched, fetches, verdict_at};
+ghost use Rattle.rules.specs.Steps.{access_step, fetched_step, fetch_step, verdict_at};
 ghost use Rattle.rules.specs.declared.state.Phase.TheVariants.{Settled};
-ghost use Rattle.tables.specs.Phases.{highest_stamp, next_stamp, is_open};
-ghost use Rattle.tables.specs.Pages.{warp_row, has_room};
+ghost use Rattle.machine.specs.Phases.{highest_stamp, next_stamp, is_open};
+ghost use Rattle.machine.specs.Warps.{warp_row, has_room};
 ghost use Rattle.machine.specs.Meaning.{state, policy_of};
-ghost use Rattle.machine.specs.Moves.{in_queue, joining, room_for_wait};
-ghost use Rattle.machine.specs.Verdicts.{told_as, verdict_as};
+ghost use Rattle.machine.specs.CallParts.{wait_step, with_request, wait_verdict};
 
-use crate::state::Machine;
-use crate::verdict::{Encounter, Verdict};
-use book::record::Book;
-use memory::store::Memory;
-use protocol::answer::{Answer, Cause, Outcome};
+use crate::machine::Machine;
+use crate::queue::QueueLimits;
+use crate::verdict::Encounter;
+use book::Book;
+use memory::Memory;
 use protocol::limits::{LINE_ROOM, QUEUE_ROOM};
-use rules::state::{Phase, Request};
-use tables::queue::QueueLimits;
+use protocol::{Answer, Cause, Outcome};
+use rules::{Phase, Request, Verdict};
 
-/// How many requests a line may have, and how many lines may have some.
+/// The product's limits of the queue.
 const QUEUE_LIMITS: QueueLimits = QueueLimits {
     requests_per_line: LINE_ROOM,
     lines: QUEUE_ROOM,
 };
 
 impl<M: Memory, B: Book> Machine<M, B> {
-    /// What a load or a store meets.
-    pub(crate) fn meet(&self, request: Request) -> Encounter
+    /// A request with its line and the time of its transaction.
+    pub(crate) fn encounter(&self, request: Request) -> Encounter
         ensures access { result.access ≡ request.access }
-        ensures told { told_as result.told
-            ≡ told B.Book.kind (B.Book.model self.now.book) request.line }
-        ensures time { result.time
-            ≡ time_of (state M.Memory.at B.Book.kind B.Book.model self.now) request.warp }
+        ensures line { result.line ≡ line_state B.kind (B.model self.now.book) request.line }
+        ensures time { result.time ≡ time_of (state M.at B.kind B.model self.now) request.warp }
     {
         Encounter {
             access: request.access,
-            told: self.told(request.line),
+            line: self.line_state(request.line),
             time: self.time(request.warp),
         }
     }
 
-    /// The transaction is gone: it ends, and its warp goes on at the next stamp.
-    fn lose(&mut self, warp: u32, cause: Cause, next: u64) -> Answer
-        requires free { is_waiting (warp_row self.old.tables warp).phase ≡ false }
+    /// Ends a transaction that is gone; its warp restarts at the next stamp.
+    fn end_as_gone(&mut self, warp: u32, cause: Cause, next: u64) -> Answer
+        requires free { is_waiting (warp_row self.old.warps warp).phase ≡ false }
         requires bound { next ≤ highest_stamp }
-        ensures after { state M.Memory.at B.Book.kind B.Book.model self.new
-            ≡ (ends (policy_of B.Book.kind self.old)
-            (state M.Memory.at B.Book.kind B.Book.model self.old) warp next).machine }
+        ensures after { state M.at B.kind B.model self.new
+            ≡ (after_end (policy_of B.kind self.old)
+            (state M.at B.kind B.model self.old) warp next).machine }
         ensures answer { result ≡ Gone cause next }
         ensures memory { self.new.memory ≡ self.old.memory }
     {
@@ -58,137 +55,133 @@ impl<M: Memory, B: Book> Machine<M, B> {
         Answer::Gone { cause, next }
     }
 
-    /// A request joins the queue, and notes nothing yet.
+    /// Adds a request to the queue. The book is not changed yet.
     fn join_queue(&mut self, request: Request)
-        requires open { is_open (warp_row self.old.tables request.warp).phase ≡ true }
-        requires room { has_room (warp_row self.old.tables request.warp) request.access ≡ true }
-        ensures after { state M.Memory.at B.Book.kind B.Book.model self.new
-            ≡ joining (state M.Memory.at B.Book.kind B.Book.model self.old) request }
+        requires open { is_open (warp_row self.old.warps request.warp).phase ≡ true }
+        requires room { has_room (warp_row self.old.warps request.warp) request.access ≡ true }
+        ensures after { state M.at B.kind B.model self.new
+            ≡ with_request (state M.at B.kind B.model self.old) request }
         ensures memory { self.new.memory ≡ self.old.memory }
     {
-        self.tables.wait(request);
+        self.warps.wait(request);
     }
 
-    /// How many requests may wait.
+    /// The limits of the queue.
     fn queue_limits(&self) -> QueueLimits
-        ensures line { result.requests_per_line ≡ (policy_of B.Book.kind self.now).line_room }
-        ensures queue { result.lines ≡ (policy_of B.Book.kind self.now).queue_room }
+        ensures line { result.requests_per_line ≡ (policy_of B.kind self.now).line_room }
+        ensures queue { result.lines ≡ (policy_of B.kind self.now).queue_room }
     {
         QUEUE_LIMITS
     }
 
-    /// A load or a store that must wait: if the queue is full for the line, its transaction ends at its own stamp.
-    fn wait_or_lose(&mut self, request: Request) -> Answer
-        requires open { is_open (warp_row self.old.tables request.warp).phase ≡ true }
-        requires room { has_room (warp_row self.old.tables request.warp) request.access ≡ true }
-        ensures after { state M.Memory.at B.Book.kind B.Book.model self.new
-            ≡ (in_queue (policy_of B.Book.kind self.old)
-            (state M.Memory.at B.Book.kind B.Book.model self.old) request.warp request.line
-            request.access).machine }
+    /// A load or a store that must wait. If the queue is full for its line, the transaction is
+    /// gone, and restarts at its own stamp.
+    fn wait_or_end(&mut self, request: Request) -> Answer
+        requires open { is_open (warp_row self.old.warps request.warp).phase ≡ true }
+        requires room { has_room (warp_row self.old.warps request.warp) request.access ≡ true }
+        ensures after { state M.at B.kind B.model self.new
+            ≡ (wait_step (policy_of B.kind self.old)
+            (state M.at B.kind B.model self.old) request.warp request.line request.access).machine }
         ensures answer { Ok result
-            ≡ (in_queue (policy_of B.Book.kind self.old)
-            (state M.Memory.at B.Book.kind B.Book.model self.old) request.warp request.line
-            request.access).answer }
+            ≡ (wait_step (policy_of B.kind self.old)
+            (state M.at B.kind B.model self.old) request.warp request.line request.access).answer }
         ensures memory { self.new.memory ≡ self.old.memory }
     {
-        if self.tables.is_full(request.line, self.queue_limits()) {
-            let stamp = self.tables.stamp(request.warp);
-            return self.lose(request.warp, Cause::QueueFull, stamp);
+        if self.warps.is_full(request.line, self.queue_limits()) {
+            let stamp = self.warps.stamp(request.warp);
+            return self.end_as_gone(request.warp, Cause::QueueFull, stamp);
         }
         self.join_queue(request);
         Answer::Wait
     }
 
-    /// What the access steps say of a load or a store now. Only a request that must wait asks the queue for room.
+    /// The verdict on a load or a store now, by the access steps and the room in the queue.
     pub fn verdict(&self, request: Request) -> Verdict
-        ensures { verdict_as result
-            ≡ verdict_at (policy_of B.Book.kind self.now)
-            (state M.Memory.at B.Book.kind B.Book.model self.now) request.warp request.line
+        ensures { result
+            ≡ verdict_at (policy_of B.kind self.now)
+            (state M.at B.kind B.model self.now) request.warp request.line
             request.access }
     {
-        match self.meet(request).decide() {
+        match self.encounter(request).access_verdict() {
             Verdict::OwnLine => Verdict::OwnLine,
-            Verdict::Lost { cause, next } => Verdict::Lost { cause, next },
+            Verdict::Gone { cause, next } => Verdict::Gone { cause, next },
             Verdict::MustWait => self.wait_verdict(request),
             Verdict::GoOn => Verdict::GoOn,
         }
     }
 
-    // The same of a request that must wait.
+    /// The verdict on a request that must wait, by the room in the queue.
     fn wait_verdict(&self, request: Request) -> Verdict
-        ensures { verdict_as result
-            ≡ room_for_wait (policy_of B.Book.kind self.now)
-            (state M.Memory.at B.Book.kind B.Book.model self.now) request.warp request.line }
+        ensures { result
+            ≡ wait_verdict (policy_of B.kind self.now)
+            (state M.at B.kind B.model self.now) request.warp request.line }
     {
-        if !self.tables.is_full(request.line, self.queue_limits()) {
+        if !self.warps.is_full(request.line, self.queue_limits()) {
             return Verdict::MustWait;
         }
-        Verdict::Lost {
+        Verdict::Gone {
             cause: Cause::QueueFull,
-            next: self.tables.stamp(request.warp),
+            next: self.warps.stamp(request.warp),
         }
     }
 
-    // That the warp is open and has room in its log are facts of the tables and the request together, which a type of
-    // neither could hold; so each step asks for them.
-    /// A load or a store of a warp that may go on.
+    /// A load or a store of an open warp.
     pub(crate) fn access(&mut self, request: Request) -> Answer
         requires inside { request.line < line_limit }
-        requires open { is_open (warp_row self.old.tables request.warp).phase ≡ true }
-        requires room { has_room (warp_row self.old.tables request.warp) request.access ≡ true }
-        ensures after { state M.Memory.at B.Book.kind B.Book.model self.new
-            ≡ (accesses (policy_of B.Book.kind self.old)
-            (state M.Memory.at B.Book.kind B.Book.model self.old) request.warp request.line
-            request.access).machine }
+        requires open { is_open (warp_row self.old.warps request.warp).phase ≡ true }
+        requires room { has_room (warp_row self.old.warps request.warp) request.access ≡ true }
+        ensures after { state M.at B.kind B.model self.new
+            ≡ (access_step (policy_of B.kind self.old)
+            (state M.at B.kind B.model self.old) request.warp request.line request.access).machine }
         ensures answer { Ok result
-            ≡ (accesses (policy_of B.Book.kind self.old)
-            (state M.Memory.at B.Book.kind B.Book.model self.old) request.warp request.line
-            request.access).answer }
+            ≡ (access_step (policy_of B.kind self.old)
+            (state M.at B.kind B.model self.old) request.warp request.line request.access).answer }
         ensures memory { self.new.memory ≡ self.old.memory }
     {
-        match self.meet(request).decide() {
+        match self.encounter(request).access_verdict() {
             Verdict::OwnLine => self.serve_own(request).into(),
-            Verdict::Lost { cause, next } => self.lose(request.warp, cause, next),
-            Verdict::MustWait => self.wait_or_lose(request),
+            Verdict::Gone { cause, next } => self.end_as_gone(request.warp, cause, next),
+            Verdict::MustWait => self.wait_or_end(request),
             Verdict::GoOn => self.serve(request).into(),
         }
     }
 
-    /// Hands over a settled outcome: after a value or a store the warp goes on; gone, its transaction ends.
-    fn hand_over(&mut self, warp: u32, outcome: Outcome) -> Answer
-        requires settled { (warp_row self.old.tables warp).phase ≡ Settled outcome }
+    /// Delivers a settled outcome. After a value or a store the warp is open again; a transaction
+    /// that is gone ends.
+    fn deliver(&mut self, warp: u32, outcome: Outcome) -> Answer
+        requires settled { (warp_row self.old.warps warp).phase ≡ Settled outcome }
         requires bound { next_stamp outcome ≤ highest_stamp }
-        ensures after { state M.Memory.at B.Book.kind B.Book.model self.new
-            ≡ (fetched (policy_of B.Book.kind self.old)
-            (state M.Memory.at B.Book.kind B.Book.model self.old) warp outcome).machine }
+        ensures after { state M.at B.kind B.model self.new
+            ≡ (fetched_step (policy_of B.kind self.old)
+            (state M.at B.kind B.model self.old) warp outcome).machine }
         ensures answer { Ok result
-            ≡ (fetched (policy_of B.Book.kind self.old)
-            (state M.Memory.at B.Book.kind B.Book.model self.old) warp outcome).answer }
+            ≡ (fetched_step (policy_of B.kind self.old)
+            (state M.at B.kind B.model self.old) warp outcome).answer }
         ensures memory { self.new.memory ≡ self.old.memory }
     {
         match outcome {
             Outcome::Value { .. } | Outcome::Stored => {
-                self.tables.resume(warp);
+                self.warps.resume(warp);
                 outcome.into()
             }
-            Outcome::Gone { cause, next } => self.lose(warp, cause, next),
+            Outcome::Gone { cause, next } => self.end_as_gone(warp, cause, next),
         }
     }
 
-    /// The outcome of a load or a store that had to wait, once it is there.
-    pub(crate) fn hand_out(&mut self, warp: u32) -> Answer
-        ensures after { state M.Memory.at B.Book.kind B.Book.model self.new
-            ≡ (fetches (policy_of B.Book.kind self.old)
-            (state M.Memory.at B.Book.kind B.Book.model self.old) warp
-            (warp_row self.old.tables warp).phase).machine }
+    /// The outcome of a load or a store that had to wait, once it is settled.
+    pub(crate) fn fetch_outcome(&mut self, warp: u32) -> Answer
+        ensures after { state M.at B.kind B.model self.new
+            ≡ (fetch_step (policy_of B.kind self.old)
+            (state M.at B.kind B.model self.old) warp
+            (warp_row self.old.warps warp).phase).machine }
         ensures answer { Ok result
-            ≡ (fetches (policy_of B.Book.kind self.old)
-            (state M.Memory.at B.Book.kind B.Book.model self.old) warp
-            (warp_row self.old.tables warp).phase).answer }
+            ≡ (fetch_step (policy_of B.kind self.old)
+            (state M.at B.kind B.model self.old) warp
+            (warp_row self.old.warps warp).phase).answer }
         ensures memory { self.new.memory ≡ self.old.memory }
     {
-        match self.tables.phase(warp) {
-            Phase::Settled { outcome } => self.hand_over(warp, outcome),
+        match self.warps.phase(warp) {
+            Phase::Settled { outcome } => self.deliver(warp, outcome),
             Phase::Idle | Phase::Open | Phase::Waiting => Answer::Wait,
         }
     }

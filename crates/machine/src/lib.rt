@@ -2,13 +2,27 @@
 #![tactic(auto)]
 
 mod accesses;
-pub mod calls;
+mod calls;
 mod ending;
-pub mod making;
+mod lines;
+mod log;
+mod machine;
+mod making;
 mod parts;
-pub mod questions;
+mod questions;
+mod queue;
 mod refusals;
-pub mod running;
+mod row;
+mod running;
 mod serving;
-pub mod state;
-pub mod verdict;
+mod turn;
+mod verdict;
+mod warps;
+
+pub use log::{Log, Store};
+pub use machine::Machine;
+pub use queue::{Queue, QueueLimits};
+pub use row::Row;
+pub use running::{Ran, run, run_to_vec};
+pub use verdict::Encounter;
+pub use warps::Warps;

@@ -1,26 +1,25 @@
-//! What the machine asks of its memory and its book.
+//! How the machine reads and changes its memory and its book.
 ghost use Rattle.std.specs.Prelude.{◌≡◌, ◌≤◌, [], ◌∷◌, map};
-ghost use Rattle.rules.specs.Access.{told};
-ghost use Rattle.rules.specs.Ending.{releases_lines};
-ghost use Rattle.rules.specs.Serving.{memory_value, reads};
+ghost use Rattle.rules.specs.Ending.{with_lines_released};
+ghost use Rattle.rules.specs.Serving.{memory_value, with_read_noted};
 ghost use Rattle.rules.specs.State.{time_of};
-ghost use Rattle.rules.specs.Steps.{written, writes_back};
-ghost use Rattle.tables.specs.Phases.{highest_stamp};
-ghost use Rattle.tables.specs.Rows.{entry_of};
+ghost use Rattle.rules.specs.Steps.{lines_after_stores, with_log_written};
+ghost use Rattle.machine.specs.Phases.{highest_stamp};
+ghost use Rattle.machine.specs.Logs.{store_entry};
 ghost use Rattle.machine.specs.Meaning.{state, loan};
-ghost use Rattle.machine.specs.Moves.{own_value, reserving};
-ghost use Rattle.machine.specs.Verdicts.{told_as};
+ghost use Rattle.machine.specs.CallParts.{own_value, with_line_reserved};
 
-use crate::state::Machine;
-use book::record::{Book, Told};
-use memory::store::Memory;
-use tables::row::Store;
+use crate::log::Store;
+use crate::machine::Machine;
+use book::Book;
+use memory::Memory;
 
 /// Writes some stores to a memory, in order.
 fn write_all<M: Memory>(memory: &mut M, stores: &[Store])
-    ensures lines { M.Memory.at memory.new ≡ written (M.Memory.at memory.old) (map entry_of stores.now) }
-    ensures lender { M.Memory.lent memory.new ≡ M.Memory.lent memory.old }
-    ensures untouched { M.Memory.spare memory.new ≡ M.Memory.spare memory.old }
+    ensures lines { M.at memory.new
+        ≡ lines_after_stores (M.at memory.old) (map store_entry stores.now) }
+    ensures lender { M.lent memory.new ≡ M.lent memory.old }
+    ensures untouched { M.spare memory.new ≡ M.spare memory.old }
 {
     for store in stores {
         let _ = memory.write(store.line, store.value);
@@ -28,75 +27,64 @@ fn write_all<M: Memory>(memory: &mut M, stores: &[Store])
 }
 
 impl<M: Memory, B: Book> Machine<M, B> {
-    /// What the book tells of a line.
-    pub(crate) fn told(&self, line: u32) -> Told
-        ensures { told_as result ≡ told B.Book.kind (B.Book.model self.now.book) line }
-    {
-        self.book.told(line)
-    }
-
     /// The logical time of a warp's transaction.
     pub(crate) fn time(&self, warp: u32) -> (u64, u32)
-        ensures value { result ≡ time_of (state M.Memory.at B.Book.kind B.Book.model self.now) warp }
+        ensures value { result ≡ time_of (state M.at B.kind B.model self.now) warp }
         ensures bound { result.0 ≤ highest_stamp }
     {
-        (self.tables.stamp(warp), warp)
+        (self.warps.stamp(warp), warp)
     }
 
-    /// The value of a line; 0 for a line that the memory lacks.
+    /// The value of a line, or 0 if the memory lacks it.
     pub(crate) fn memory_value(&self, line: u32) -> u32
-        ensures { result ≡ memory_value (state M.Memory.at B.Book.kind B.Book.model self.now)
-            line }
+        ensures { result ≡ memory_value (state M.at B.kind B.model self.now) line }
     {
         self.memory.read(line).unwrap_or(0)
     }
 
-    // A warp and a line, as in the next two, and no request: what is wanted of the line makes no difference to them.
-    /// The last value that a warp logged for a line; the line's value if it logged none.
+    /// The last value that a warp logged for a line, or the line's value if it logged none.
     pub(crate) fn own_value(&self, warp: u32, line: u32) -> u32
-        ensures { result ≡ own_value (state M.Memory.at B.Book.kind B.Book.model self.now) warp
-            line }
+        ensures { result ≡ own_value (state M.at B.kind B.model self.now) warp line }
     {
-        let logged = self.tables.log(warp).latest(line);
+        let logged = self.warps.log(warp).latest(line);
         logged.unwrap_or_else(|| self.memory_value(line))
     }
 
     /// Notes a read of a line.
-    pub(crate) fn note(&mut self, warp: u32, line: u32)
-        ensures after { state M.Memory.at B.Book.kind B.Book.model self.new
-            ≡ reads (state M.Memory.at B.Book.kind B.Book.model self.old) warp line }
+    pub(crate) fn note_read(&mut self, warp: u32, line: u32)
+        ensures after { state M.at B.kind B.model self.new
+            ≡ with_read_noted (state M.at B.kind B.model self.old) warp line }
         ensures memory { self.new.memory ≡ self.old.memory }
     {
-        if let Ok(stamp) = u32::try_from(self.tables.stamp(warp)) {
+        if let Ok(stamp) = u32::try_from(self.warps.stamp(warp)) {
             let _ = self.book.note(line, (stamp, warp));
         }
     }
 
-    // Of the shape of `note`, but for the book's call: passed as a closure, its contract would say the call's again.
     /// Reserves a line for a warp's transaction.
     pub(crate) fn reserve(&mut self, warp: u32, line: u32)
-        ensures after { state M.Memory.at B.Book.kind B.Book.model self.new
-            ≡ reserving (state M.Memory.at B.Book.kind B.Book.model self.old) warp line }
+        ensures after { state M.at B.kind B.model self.new
+            ≡ with_line_reserved (state M.at B.kind B.model self.old) warp line }
         ensures memory { self.new.memory ≡ self.old.memory }
     {
-        if let Ok(stamp) = u32::try_from(self.tables.stamp(warp)) {
+        if let Ok(stamp) = u32::try_from(self.warps.stamp(warp)) {
             let _ = self.book.reserve(line, (stamp, warp));
         }
     }
 
-    /// Releases a line, and tries nothing yet.
+    /// Releases a line, without a retry.
     fn release(&mut self, line: u32)
-        ensures after { state M.Memory.at B.Book.kind B.Book.model self.new
-            ≡ releases_lines (state M.Memory.at B.Book.kind B.Book.model self.old) (line ∷ []) }
+        ensures after { state M.at B.kind B.model self.new
+            ≡ with_lines_released (state M.at B.kind B.model self.old) (line ∷ []) }
         ensures memory { self.new.memory ≡ self.old.memory }
     {
         let _ = self.book.release(line);
     }
 
-    /// Releases some lines, one after another.
+    /// Releases some lines in turn, without a retry.
     pub(crate) fn release_all(&mut self, lines: &[u32])
-        ensures after { state M.Memory.at B.Book.kind B.Book.model self.new
-            ≡ releases_lines (state M.Memory.at B.Book.kind B.Book.model self.old) lines.now }
+        ensures after { state M.at B.kind B.model self.new
+            ≡ with_lines_released (state M.at B.kind B.model self.old) lines.now }
         ensures memory { self.new.memory ≡ self.old.memory }
     {
         for line in lines {
@@ -104,14 +92,13 @@ impl<M: Memory, B: Book> Machine<M, B> {
         }
     }
 
-    /// Writes a warp's log to memory, in order.
+    /// Writes a warp's log to memory, in the order of its stores.
     pub(crate) fn write_back(&mut self, warp: u32)
-        ensures after { state M.Memory.at B.Book.kind B.Book.model self.new
-            ≡ writes_back (state M.Memory.at B.Book.kind B.Book.model self.old) warp }
-        ensures loan { loan M.Memory.lent M.Memory.spare self.new
-            ≡ loan M.Memory.lent M.Memory.spare self.old }
+        ensures after { state M.at B.kind B.model self.new
+            ≡ with_log_written (state M.at B.kind B.model self.old) warp }
+        ensures loan { loan M.lent M.spare self.new ≡ loan M.lent M.spare self.old }
     {
-        let log = self.tables.log(warp);
+        let log = self.warps.log(warp);
         write_all(&mut self.memory, log.stores());
     }
 }

@@ -1,23 +1,20 @@
-//! What can be asked of the machine's tables.
-ghost use Rattle.std.specs.Prelude.{◌≡◌, length};
+//! What can be asked of a machine.
+ghost use Rattle.std.specs.Prelude.{◌≡◌, length, slice_get};
 ghost use Rattle.std.specs.Option.{ok_or};
 ghost use Rattle.memory.specs.Lines.{no_line};
-ghost use Rattle.rules.specs.Access.{told};
+ghost use Rattle.rules.specs.Access.{line_state};
 ghost use Rattle.rules.specs.Queue.{request_of};
-ghost use Rattle.tables.specs.Lists.{place_at};
-ghost use Rattle.tables.specs.Pages.{warp_rows, queued, warp_row};
-ghost use Rattle.tables.specs.Rows.{log_of};
-ghost use Rattle.machine.specs.Verdicts.{told_as};
+ghost use Rattle.rules.specs.State.{warp_row_of};
+ghost use Rattle.machine.specs.Meaning.{state, memory_of, book_of, warps_of};
 ghost use Rattle.machine.specs.Outcomes.{outcome_of};
 
-use crate::state::Machine;
-use book::record::{Book, Told};
-use memory::store::Memory;
-use protocol::answer::Outcome;
-use protocol::fault::Fault;
-use rules::state::{Phase, Request};
-use tables::row::Log;
-use tables::state::Tables;
+use crate::log::Log;
+use crate::machine::Machine;
+use crate::warps::Warps;
+use book::{Book, LineState};
+use memory::Memory;
+use protocol::{Fault, Outcome};
+use rules::{Phase, Request};
 
 /// The outcome that a phase holds.
 fn outcome_of(phase: Phase) -> Option<Outcome>
@@ -30,100 +27,101 @@ fn outcome_of(phase: Phase) -> Option<Outcome>
 }
 
 impl<M: Memory, B: Book> Machine<M, B> {
-    /// How many warps there are.
-    pub fn warps(&self) -> usize
-        ensures { result ≡ length (warp_rows self.now.tables) }
+    /// The number of warps.
+    pub fn warp_count(&self) -> usize
+        ensures { result ≡ length (state M.at B.kind B.model self.now).warp_rows }
     {
-        self.tables.warps()
+        self.warps.len()
     }
 
     /// What a warp is doing.
     pub fn phase(&self, warp: u32) -> Phase
-        ensures { result ≡ (warp_row self.now.tables warp).phase }
+        ensures { result ≡ (warp_row_of (state M.at B.kind B.model self.now) warp).phase }
     {
-        self.tables.phase(warp)
+        self.warps.phase(warp)
     }
 
     /// A warp's stamp.
     pub fn stamp(&self, warp: u32) -> u64
-        ensures { result ≡ (warp_row self.now.tables warp).stamp }
+        ensures { result ≡ (warp_row_of (state M.at B.kind B.model self.now) warp).stamp }
     {
-        self.tables.stamp(warp)
+        self.warps.stamp(warp)
     }
 
     /// What a warp has stored and not yet committed.
     pub fn log(&self, warp: u32) -> Log
-        ensures { log_of result ≡ (warp_row self.now.tables warp).log }
+        ensures { result ≡ (warp_row_of (state M.at B.kind B.model self.now) warp).log }
     {
-        self.tables.log(warp)
+        self.warps.log(warp)
     }
 
     /// The outcome that a warp may fetch.
     pub fn outcome(&self, warp: u32) -> Option<Outcome>
-        ensures { result ≡ outcome_of (warp_row self.now.tables warp).phase }
+        ensures { result
+            ≡ outcome_of (warp_row_of (state M.at B.kind B.model self.now) warp).phase }
     {
-        outcome_of(self.tables.phase(warp))
+        outcome_of(self.warps.phase(warp))
     }
 
-    /// A warp's request that waits.
+    /// The request of a warp that waits.
     pub fn request_of(&self, warp: u32) -> Option<Request>
-        ensures { result ≡ request_of (queued self.now.tables) warp }
+        ensures { result ≡ request_of (state M.at B.kind B.model self.now).queue warp }
     {
-        self.tables.request(warp)
+        self.warps.request_of(warp)
     }
 
-    /// The request at a place of the queue, counted from 0 in the order in which they came.
-    pub fn place(&self, n: usize) -> Option<Request>
-        ensures { result ≡ place_at (queued self.now.tables) n }
+    /// The request at a place of the queue, counted from 0 in the order of arrival.
+    pub fn request_at(&self, place: usize) -> Option<Request>
+        ensures { result ≡ slice_get (state M.at B.kind B.model self.now).queue place }
     {
-        self.tables.place(n)
+        self.warps.request_at(place)
     }
 
     /// The value of a line.
     pub fn value(&self, line: u32) -> Result<u32, Fault>
-        ensures { result ≡ ok_or (M.Memory.at self.now.memory line) (no_line line) }
+        ensures { result ≡ ok_or ((state M.at B.kind B.model self.now).lines line) (no_line line) }
     {
         self.memory.read(line)
     }
 
-    /// How many stores hold a line reserved.
+    /// The number of stores that hold a line reserved.
     pub fn stores(&self, line: u32) -> u32
-        ensures { result ≡ B.Book.kind.stores (B.Book.model self.now.book) line }
+        ensures { result ≡ B.kind.stores (state M.at B.kind B.model self.now).book line }
     {
         self.book.stores(line)
     }
 
-    /// What the book tells of a line besides.
-    pub fn line(&self, line: u32) -> Told
-        ensures { told_as result ≡ told B.Book.kind (B.Book.model self.now.book) line }
+    /// What the book says of a line, but for the number of stores.
+    pub fn line_state(&self, line: u32) -> LineState
+        ensures { result ≡ line_state B.kind (state M.at B.kind B.model self.now).book line }
     {
-        self.told(line)
+        self.book.line_state(line)
     }
 
-    /// The latest stamp that the book tells.
+    /// The latest stamp in the book.
     pub fn latest(&self) -> u32
-        ensures { result ≡ B.Book.kind.latest (B.Book.model self.now.book) }
+        ensures { result ≡ B.kind.latest (state M.at B.kind B.model self.now).book }
     {
         self.book.latest()
     }
 
-    /// The warps' rows and the queue, as a whole.
-    pub fn tables(&self) -> &Tables
-        ensures { result.now ≡ self.now.tables }
+    /// The warps' table and the queue.
+    pub fn warps(&self) -> &Warps
+        ensures { result.now ≡ warps_of self.now }
     {
-        &self.tables
+        &self.warps
     }
 
-    /// The memory, as a whole.
+    /// The memory.
     pub fn memory(&self) -> &M
-        ensures { result.now ≡ self.now.memory }
+        ensures { result.now ≡ memory_of self.now }
     {
         &self.memory
     }
 
-    /// The book, as a whole.
+    /// The book.
     pub fn book(&self) -> &B
-        ensures { result.now ≡ self.now.book }
+        ensures { result.now ≡ book_of self.now }
     {
         &self.book
     }

@@ -1,23 +1,23 @@
-//! Refusals, in the order of their numbers: the first is told.
+//! Refusals. Of several, the one with the lowest number is reported.
 ghost use Rattle.std.specs.Prelude.{◌≡◌, length, nat_lt};
 ghost use Rattle.protocol.specs.declared.fault.Refusal.TheVariants.{NoSuchWarp, NoSuchLine};
-ghost use Rattle.rules.specs.Refusals.{idle_refuses, open_refuses, pending_refuses, phase_refuses};
-ghost use Rattle.rules.specs.Refusals.{faulty, unless, has_line, number_fault, fault_of};
-ghost use Rattle.tables.specs.Pages.{warp_rows, warp_row};
+ghost use Rattle.rules.specs.Refusals.{idle_refusal, open_refusal, pending_refusal, phase_refusal};
+ghost use Rattle.rules.specs.Refusals.{refusal_fault, fault_unless, has_line};
+ghost use Rattle.rules.specs.Refusals.{number_fault, fault_of};
+ghost use Rattle.machine.specs.Warps.{warp_rows, warp_row};
 ghost use Rattle.machine.specs.Meaning.{state};
-ghost use Rattle.machine.specs.Moves.{passed, room_fault, clock_fault, asked_fault};
+ghost use Rattle.machine.specs.CallParts.{as_result, room_fault, clock_fault, warp_fault};
 
-use crate::state::Machine;
-use book::record::Book;
-use memory::store::{Memory, no_such_line};
-use protocol::call::{Call, Op};
-use protocol::fault::{Fault, Refusal};
+use crate::machine::Machine;
+use book::Book;
+use memory::{Memory, no_such_line};
 use protocol::limits::{LAST_STAMP, LINES, STORES};
-use rules::state::Phase;
+use protocol::{Call, Fault, Op, Refusal};
+use rules::Phase;
 
-/// What a warp without a transaction may not ask for.
+/// Why an idle warp is refused an operation, if it is.
 fn idle_refuses(op: Op) -> Option<Refusal>
-    ensures { result ≡ idle_refuses op }
+    ensures { result ≡ idle_refusal op }
 {
     match op {
         Op::Begin => None,
@@ -27,9 +27,9 @@ fn idle_refuses(op: Op) -> Option<Refusal>
     }
 }
 
-/// What a warp may not ask for while it may go on.
+/// Why an open warp is refused an operation, if it is.
 fn open_refuses(op: Op) -> Option<Refusal>
-    ensures { result ≡ open_refuses op }
+    ensures { result ≡ open_refusal op }
 {
     match op {
         Op::Begin => Some(Refusal::WarpNotIdle),
@@ -38,9 +38,9 @@ fn open_refuses(op: Op) -> Option<Refusal>
     }
 }
 
-/// What a warp may not ask for while the outcome of a load or a store that had to wait is not fetched.
+/// Why a warp is refused an operation while it waits, or has an outcome to fetch.
 fn pending_refuses(op: Op) -> Option<Refusal>
-    ensures { result ≡ pending_refuses op }
+    ensures { result ≡ pending_refusal op }
 {
     match op {
         Op::Begin => Some(Refusal::WarpNotIdle),
@@ -49,9 +49,9 @@ fn pending_refuses(op: Op) -> Option<Refusal>
     }
 }
 
-/// What a warp may not ask for in a phase.
+/// Why a warp in a phase is refused an operation, if it is.
 fn phase_refuses(phase: Phase, op: Op) -> Option<Refusal>
-    ensures { result ≡ phase_refuses phase op }
+    ensures { result ≡ phase_refusal phase op }
 {
     match phase {
         Phase::Idle => idle_refuses(op),
@@ -61,33 +61,33 @@ fn phase_refuses(phase: Phase, op: Op) -> Option<Refusal>
 }
 
 impl<M: Memory, B: Book> Machine<M, B> {
-    /// The warp is one of the machine's.
+    /// Checks that the machine has the warp.
     fn check_warp(&self, warp: u32) -> Result<(), Fault>
-        ensures { result ≡ passed (unless (nat_lt warp (length (warp_rows self.now.tables))) NoSuchWarp warp) }
+        ensures { result ≡ as_result
+            (fault_unless (nat_lt warp (length (warp_rows self.now.warps))) NoSuchWarp warp) }
     {
-        if warp as usize >= self.tables.warps() {
+        if warp as usize >= self.warps.len() {
             return Err(Fault::in_call(Refusal::NoSuchWarp, u64::from(warp)));
         }
         Ok(())
     }
 
-    // A match, since `map_or` would say what is good first and what is refused last.
-    /// The warp may ask for this in its phase.
+    /// Checks that the warp may ask for this in its phase.
     fn check_phase(&self, call: Call) -> Result<(), Fault>
-        ensures { result ≡ passed
-            (faulty (phase_refuses (warp_row self.now.tables call.warp).phase call.op) call.warp) }
+        ensures { result ≡ as_result
+            (refusal_fault (phase_refusal (warp_row self.now.warps call.warp).phase call.op)
+            call.warp) }
     {
-        match phase_refuses(self.tables.phase(call.warp), call.op) {
+        match phase_refuses(self.warps.phase(call.warp), call.op) {
             Some(why) => Err(Fault::in_call(why, u64::from(call.warp))),
             None => Ok(()),
         }
     }
 
-    /// The memory has the line, and a book can number it.
+    /// Checks that the memory has the line, and that a book can number it.
     fn check_line(&self, line: u32) -> Result<(), Fault>
-        ensures { result ≡ passed
-            (unless (has_line (state M.Memory.at B.Book.kind B.Book.model self.now) line)
-            NoSuchLine line) }
+        ensures { result ≡ as_result
+            (fault_unless (has_line (state M.at B.kind B.model self.now) line) NoSuchLine line) }
     {
         if line >= LINES {
             return Err(no_such_line(line));
@@ -96,32 +96,32 @@ impl<M: Memory, B: Book> Machine<M, B> {
         Ok(())
     }
 
-    /// The warp's log has room for one store more.
+    /// Checks that the warp's log has room for one more store.
     fn check_room(&self, warp: u32) -> Result<(), Fault>
-        ensures { result ≡ passed (room_fault (warp_row self.now.tables warp)) }
+        ensures { result ≡ as_result (room_fault (warp_row self.now.warps warp)) }
     {
-        let stored = self.tables.stored(warp);
+        let stored = self.warps.stored_count(warp);
         if stored >= STORES {
             return Err(Fault::in_call(Refusal::LogFull, stored as u64));
         }
         Ok(())
     }
 
-    /// The warp's stamp is not past the end of the clock.
+    /// Checks that the warp's stamp is not past the end of the clock.
     fn check_clock(&self, warp: u32) -> Result<(), Fault>
-        ensures { result ≡ passed (clock_fault (warp_row self.now.tables warp)) }
+        ensures { result ≡ as_result (clock_fault (warp_row self.now.warps warp)) }
     {
-        let stamp = self.tables.stamp(warp);
+        let stamp = self.warps.stamp(warp);
         if stamp > u64::from(LAST_STAMP) {
             return Err(Fault::in_call(Refusal::ClockSpent, stamp));
         }
         Ok(())
     }
 
-    /// A line that is lacking, a full log, a clock that is spent.
+    /// Checks the line, the room in the log, or the clock, as the operation needs.
     fn check_number(&self, call: Call) -> Result<(), Fault>
-        ensures { result ≡ passed
-            (number_fault (state M.Memory.at B.Book.kind B.Book.model self.now) call.warp call.op) }
+        ensures { result ≡ as_result
+            (number_fault (state M.at B.kind B.model self.now) call.warp call.op) }
     {
         match call.op {
             Op::Begin => self.check_clock(call.warp),
@@ -134,21 +134,21 @@ impl<M: Memory, B: Book> Machine<M, B> {
         }
     }
 
-    /// The refusals of a warp that the machine has.
-    fn check_asked(&self, call: Call) -> Result<(), Fault>
-        ensures { result ≡ passed
-            (asked_fault (state M.Memory.at B.Book.kind B.Book.model self.now) call.warp call.op) }
+    /// All checks of a warp that the machine has.
+    fn check_call_of_warp(&self, call: Call) -> Result<(), Fault>
+        ensures { result ≡ as_result
+            (warp_fault (state M.at B.kind B.model self.now) call.warp call.op) }
     {
         self.check_phase(call)?;
         self.check_number(call)
     }
 
-    /// All refusals, in the order of their numbers.
+    /// All checks, in the order of the refusals' numbers.
     pub(crate) fn check(&self, call: Call) -> Result<(), Fault>
-        ensures { result ≡ passed
-            (fault_of (state M.Memory.at B.Book.kind B.Book.model self.now) call) }
+        ensures { result ≡ as_result
+            (fault_of (state M.at B.kind B.model self.now) call) }
     {
         self.check_warp(call.warp)?;
-        self.check_asked(call)
+        self.check_call_of_warp(call)
     }
 }

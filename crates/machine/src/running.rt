@@ -1,21 +1,19 @@
-//! Runs: a machine is made and makes a list of calls.
+//! Runs: a machine is made, and a list of calls is executed.
 ghost use Rattle.std.specs.Prelude.{◌≡◌, ◌≤◌, length, None, IfOk};
 ghost use Rattle.rules.specs.Making.{making_fault};
 ghost use Rattle.rules.specs.Runs.{run as run_from};
 ghost use Rattle.machine.specs.Meaning.{state, policy_of, loan};
-ghost use Rattle.machine.specs.Moves.{passed};
-ghost use Rattle.machine.specs.Running.{run_of, calls_made, answers_in, answered};
+ghost use Rattle.machine.specs.CallParts.{as_result};
+ghost use Rattle.machine.specs.Running.{run_of, calls_made, answers_in, answers_after};
 ghost use Rattle.machine.specs.Running.{AccountsOf, ExplainedOf, WaitsOf, TablesOf, FetchesOf};
 
-use crate::state::Machine;
-use book::record::Book;
-use memory::store::Memory;
-use protocol::answer::Answer;
-use protocol::call::Call;
-use protocol::fault::Fault;
+use crate::machine::Machine;
+use book::Book;
+use memory::Memory;
+use protocol::{Answer, Call, Fault};
 use std::alloc::{AllocError, Global};
 
-/// What a run leaves: the machine, and what was wrong with its shape.
+/// The machine at the end of a run, and the fault of its shape, if it has one.
 #[derive(Drop)]
 pub struct Ran<M, B> {
     pub machine: Machine<M, B>,
@@ -23,17 +21,16 @@ pub struct Ran<M, B> {
 }
 
 impl<M: Memory, B: Book> Machine<M, B> {
-    /// Makes a list of calls, and puts each answer in its place.
+    /// Executes a list of calls, and puts each answer in its place.
     fn make_calls(&mut self, calls: &[Call], answers: &mut [Result<Answer, Fault>])
         requires { length calls.now ≤ length answers.old }
-        ensures after { state M.Memory.at B.Book.kind B.Book.model self.new
-            ≡ (run_from (policy_of B.Book.kind self.old)
-            (state M.Memory.at B.Book.kind B.Book.model self.old) calls.now).machine }
+        ensures after { state M.at B.kind B.model self.new
+            ≡ (run_from (policy_of B.kind self.old)
+            (state M.at B.kind B.model self.old) calls.now).machine }
         ensures answers { answers.new
-            ≡ answered (run_from (policy_of B.Book.kind self.old)
-            (state M.Memory.at B.Book.kind B.Book.model self.old) calls.now).events answers.old }
-        ensures loan { loan M.Memory.lent M.Memory.spare self.new
-            ≡ loan M.Memory.lent M.Memory.spare self.old }
+            ≡ answers_after (run_from (policy_of B.kind self.old)
+            (state M.at B.kind B.model self.old) calls.now).events answers.old }
+        ensures loan { loan M.lent M.spare self.new ≡ loan M.lent M.spare self.old }
     {
         for (place, call) in calls.iter().enumerate() {
             answers[place] = self.call(*call);
@@ -41,12 +38,18 @@ impl<M: Memory, B: Book> Machine<M, B> {
     }
 }
 
-/// Makes a machine and makes calls, as many as there are places for answers. It needs no memory of its own. Machine and
-/// answers are those of the rules, and the places behind the answers stay as they were. Whatever the memory and the
-/// book: the account of the run is that of its committed transactions run alone, exactly in the orders that keep logical
-/// time among those that clash, and there is such an order; from every waiting warp, stamps fall from holder to holder
-/// until one does not wait; the tables tell the account; a fetch tells what joined the account when it came out; and
-/// what the memory borrows stays borrowed, with all that is in no line as it was.
+/// Makes a machine and executes as many calls as there are places for answers. It allocates
+/// nothing. Machine and answers are as the rules say; the places after the answers are unchanged.
+/// With every memory and every book:
+///
+/// - the account of the run is that of its committed transactions executed one at a time, exactly
+///   in the orders that keep logical time between conflicting transactions, and there is such an
+///   order;
+/// - there is no deadlock: holders with ever smaller stamps lead from every waiting warp to one
+///   that does not wait;
+/// - the rows, the queue and the book agree with the account;
+/// - a fetch returns what joined the account when the request was settled;
+/// - what the memory borrows stays borrowed, and what is in none of its lines stays as it was.
 pub fn run<M: Memory, B: Book>(
     memory: M,
     book: B,
@@ -54,31 +57,29 @@ pub fn run<M: Memory, B: Book>(
     calls: &[Call],
     answers: &mut [Result<Answer, Fault>],
 ) -> Ran<M, B>
-    ensures machine { state M.Memory.at B.Book.kind B.Book.model result.machine
-        ≡ (run_of B.Book.kind (M.Memory.at memory) (B.Book.model book) stamps.now
+    ensures machine { state M.at B.kind B.model result.machine
+        ≡ (run_of B.kind (M.at memory) (B.model book) stamps.now
         (calls_made calls.now answers.old)).machine }
     ensures answers { answers.new
-        ≡ answered (run_of B.Book.kind (M.Memory.at memory) (B.Book.model book) stamps.now
+        ≡ answers_after (run_of B.kind (M.at memory) (B.model book) stamps.now
         (calls_made calls.now answers.old)).events answers.old }
-    ensures shape { result.shape
-        ≡ passed (making_fault B.Book.kind (B.Book.model book) stamps.now) }
-    ensures accounts { AccountsOf (M.Memory.at memory)
-        (run_of B.Book.kind (M.Memory.at memory) (B.Book.model book) stamps.now
+    ensures shape { result.shape ≡ as_result (making_fault B.kind (B.model book) stamps.now) }
+    ensures accounts { AccountsOf (M.at memory)
+        (run_of B.kind (M.at memory) (B.model book) stamps.now
         (calls_made calls.now answers.old)) }
-    ensures explained { ExplainedOf (M.Memory.at memory)
-        (run_of B.Book.kind (M.Memory.at memory) (B.Book.model book) stamps.now
+    ensures explained { ExplainedOf (M.at memory)
+        (run_of B.kind (M.at memory) (B.model book) stamps.now
         (calls_made calls.now answers.old)) }
     ensures waits { WaitsOf
-        (run_of B.Book.kind (M.Memory.at memory) (B.Book.model book) stamps.now
+        (run_of B.kind (M.at memory) (B.model book) stamps.now
         (calls_made calls.now answers.old)) }
-    ensures tables { making_fault B.Book.kind (B.Book.model book) stamps.now ≡ None → TablesOf
-        (run_of B.Book.kind (M.Memory.at memory) (B.Book.model book) stamps.now
+    ensures tables { making_fault B.kind (B.model book) stamps.now ≡ None → TablesOf
+        (run_of B.kind (M.at memory) (B.model book) stamps.now
         (calls_made calls.now answers.old)) }
     ensures fetches { FetchesOf
-        (run_of B.Book.kind (M.Memory.at memory) (B.Book.model book) stamps.now
+        (run_of B.kind (M.at memory) (B.model book) stamps.now
         (calls_made calls.now answers.old)) }
-    ensures loan { loan M.Memory.lent M.Memory.spare result.machine
-        ≡ (M.Memory.lent memory, M.Memory.spare memory) }
+    ensures loan { loan M.lent M.spare result.machine ≡ (M.lent memory, M.spare memory) }
 {
     let (mut machine, shape) = Machine::make(memory, book, stamps);
     let count = calls.len().min(answers.len());
@@ -86,7 +87,8 @@ pub fn run<M: Memory, B: Book>(
     Ran { machine, shape }
 }
 
-/// The same of all calls, with the answers in a vector.
+/// Like `run`, but makes all calls and returns the answers in a vector. It fails only if memory
+/// runs out.
 pub fn run_to_vec<M: Memory + Drop, B: Book + Drop>(
     heap: Global,
     memory: M,
@@ -94,31 +96,24 @@ pub fn run_to_vec<M: Memory + Drop, B: Book + Drop>(
     stamps: &[u32],
     calls: &[Call],
 ) -> Result<(Ran<M, B>, Vec<Result<Answer, Fault>>), AllocError>
-    ensures machine { IfOk result (λ ran. state M.Memory.at B.Book.kind B.Book.model ran.0.machine
-        ≡ (run_of B.Book.kind (M.Memory.at memory) (B.Book.model book) stamps.now
-        calls.now).machine) }
+    ensures machine { IfOk result (λ ran. state M.at B.kind B.model ran.0.machine
+        ≡ (run_of B.kind (M.at memory) (B.model book) stamps.now calls.now).machine) }
     ensures answers { IfOk result (λ ran. ran.1.items
-        ≡ answers_in (run_of B.Book.kind (M.Memory.at memory) (B.Book.model book) stamps.now
-        calls.now).events) }
+        ≡ answers_in (run_of B.kind (M.at memory) (B.model book) stamps.now calls.now).events) }
     ensures shape { IfOk result (λ ran. ran.0.shape
-        ≡ passed (making_fault B.Book.kind (B.Book.model book) stamps.now)) }
-    ensures accounts { AccountsOf (M.Memory.at memory)
-        (run_of B.Book.kind (M.Memory.at memory) (B.Book.model book) stamps.now
-        calls.now) }
-    ensures explained { ExplainedOf (M.Memory.at memory)
-        (run_of B.Book.kind (M.Memory.at memory) (B.Book.model book) stamps.now
-        calls.now) }
+        ≡ as_result (making_fault B.kind (B.model book) stamps.now)) }
+    ensures accounts { AccountsOf (M.at memory)
+        (run_of B.kind (M.at memory) (B.model book) stamps.now calls.now) }
+    ensures explained { ExplainedOf (M.at memory)
+        (run_of B.kind (M.at memory) (B.model book) stamps.now calls.now) }
     ensures waits { WaitsOf
-        (run_of B.Book.kind (M.Memory.at memory) (B.Book.model book) stamps.now
-        calls.now) }
-    ensures tables { making_fault B.Book.kind (B.Book.model book) stamps.now ≡ None → TablesOf
-        (run_of B.Book.kind (M.Memory.at memory) (B.Book.model book) stamps.now
-        calls.now) }
+        (run_of B.kind (M.at memory) (B.model book) stamps.now calls.now) }
+    ensures tables { making_fault B.kind (B.model book) stamps.now ≡ None → TablesOf
+        (run_of B.kind (M.at memory) (B.model book) stamps.now calls.now) }
     ensures fetches { FetchesOf
-        (run_of B.Book.kind (M.Memory.at memory) (B.Book.model book) stamps.now
-        calls.now) }
-    ensures loan { IfOk result (λ ran. loan M.Memory.lent M.Memory.spare ran.0.machine
-        ≡ (M.Memory.lent memory, M.Memory.spare memory)) }
+        (run_of B.kind (M.at memory) (B.model book) stamps.now calls.now) }
+    ensures loan { IfOk result (λ ran. loan M.lent M.spare ran.0.machine
+        ≡ (M.lent memory, M.spare memory)) }
 {
     let mut answers = vec![in heap; Ok(Answer::Wait); calls.len()]?;
     let ran = run(memory, book, stamps, calls, answers.as_mut_slice());

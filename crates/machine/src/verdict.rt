@@ -1,102 +1,88 @@
-//! The access steps: what a load or a store meets at its line. The first step that applies decides.
+//! The access steps, which give a load or a store its verdict. The first step that applies decides.
 ghost use Rattle.std.specs.Prelude.{◌≡◌, ◌≤◌};
-ghost use Rattle.rules.specs.Access.{stamp_past, unowned, by_owner, by_mark, retried, decide};
-ghost use Rattle.tables.specs.Phases.{highest_stamp};
-ghost use Rattle.machine.specs.Verdicts.{told_as, verdict_as, NextWithin};
+ghost use Rattle.rules.specs.Access.{stamp_past, verdict_on_free_line, verdict_by_owner};
+ghost use Rattle.rules.specs.Access.{verdict_by_read_mark, retry_verdict, access_verdict};
+ghost use Rattle.machine.specs.Phases.{highest_stamp};
+ghost use Rattle.machine.specs.Verdicts.{NextWithin};
 
-use book::record::Told;
-use protocol::answer::Cause;
-use rules::state::Access;
+use book::LineState;
+use protocol::Cause;
+use rules::{Access, Verdict};
 
-/// What becomes of a load or a store.
-#[derive(Clone, Copy)]
-pub enum Verdict {
-    /// The line is its warp's own.
-    OwnLine,
-    /// The transaction is gone.
-    Lost { cause: Cause, next: u64 },
-    /// The request waits.
-    MustWait,
-    /// It goes on.
-    GoOn,
-}
-
-/// What a load or a store meets at its line.
+/// A load or a store, its line, and the time of its transaction.
 #[derive(Clone, Copy)]
 pub struct Encounter {
     pub access: Access,
-    /// What the book tells of the line.
-    pub told: Told,
+    /// What the book says of the line.
+    pub line: LineState,
     /// The logical time of the transaction: a pair of stamp and warp.
     pub time: (u64, u32),
     ghost bound: { time.0 ≤ highest_stamp },
 }
 
 impl Encounter {
-    /// All steps, in their order: first the warp's own line.
-    pub fn decide(self) -> Verdict
-        ensures value { verdict_as result ≡ decide self.access (told_as self.told) self.time }
+    /// All steps, in their order. The first: the line is reserved for the warp itself.
+    pub fn access_verdict(self) -> Verdict
+        ensures value { result ≡ access_verdict self.access self.line self.time }
         ensures bound { NextWithin highest_stamp result }
     {
         let (_, warp) = self.time;
-        match self.told.owner {
+        match self.line.owner {
             Some(owner) if owner == warp => Verdict::OwnLine,
-            Some(_) | None => self.retried(),
+            Some(_) | None => self.retry_verdict(),
         }
     }
 
-    /// Nothing comes before a write that is logically later. A request that waited is tried from here on.
-    pub fn retried(self) -> Verdict
-        ensures value { verdict_as result
-            ≡ retried self.access (told_as self.told) self.time }
+    /// The second step, and the first of a retry: a logically later transaction wrote the line, so
+    /// this one is gone.
+    pub fn retry_verdict(self) -> Verdict
+        ensures value { result ≡ retry_verdict self.access self.line self.time }
         ensures bound { NextWithin highest_stamp result }
     {
         let (stamp, _) = self.time;
-        if stamp < u64::from(self.told.written) {
-            return Verdict::Lost {
+        if stamp < u64::from(self.line.write_stamp) {
+            return Verdict::Gone {
                 cause: Cause::WrittenLater,
-                next: self.past(),
+                next: self.stamp_past(),
             };
         }
-        self.by_mark()
+        self.verdict_by_read_mark()
     }
 
-    /// A store must not come before a read that is logically later.
-    fn by_mark(self) -> Verdict
-        ensures value { verdict_as result
-            ≡ by_mark self.access (told_as self.told) self.time }
+    /// A store to a line that a logically later transaction read: its transaction is gone.
+    fn verdict_by_read_mark(self) -> Verdict
+        ensures value { result ≡ verdict_by_read_mark self.access self.line self.time }
         ensures bound { NextWithin highest_stamp result }
     {
-        let (read, by) = self.told.read;
+        let (read, by) = self.line.read_mark;
         match self.access {
-            Access::Write { .. } if self.time < (u64::from(read), by) => Verdict::Lost {
+            Access::Write { .. } if self.time < (u64::from(read), by) => Verdict::Gone {
                 cause: Cause::ReadLater,
-                next: self.past(),
+                next: self.stamp_past(),
             },
-            Access::Read | Access::Write { .. } => self.by_owner(),
+            Access::Read | Access::Write { .. } => self.verdict_by_owner(),
         }
     }
 
-    /// The line is another warp's: the request must wait.
-    fn by_owner(self) -> Verdict
-        ensures value { verdict_as result
-            ≡ by_owner self.told.owner self.access (told_as self.told) self.time }
+    /// A line that is reserved for another warp: the request must wait.
+    fn verdict_by_owner(self) -> Verdict
+        ensures value { result ≡ verdict_by_owner self.line.owner self.access self.line self.time }
         ensures bound { NextWithin highest_stamp result }
     {
-        match self.told.owner {
+        match self.line.owner {
             Some(_) => Verdict::MustWait,
-            None => self.unowned(),
+            None => self.verdict_on_free_line(),
         }
     }
 
-    /// The line is nobody's: a load goes on, a store too if the line has a slot.
-    fn unowned(self) -> Verdict
-        ensures value { verdict_as result ≡ unowned self.access (told_as self.told) self.time }
+    /// A line that is not reserved: a load goes on, and so does a store if the line has a slot.
+    fn verdict_on_free_line(self) -> Verdict
+        ensures value { result ≡ verdict_on_free_line self.access self.line self.time }
         ensures bound { NextWithin highest_stamp result }
     {
         let (stamp, _) = self.time;
         match self.access {
-            Access::Write { .. } if !self.told.slot => Verdict::Lost {
+            Access::Write { .. } if !self.line.has_slot => Verdict::Gone {
                 cause: Cause::NoSlot,
                 next: stamp,
             },
@@ -104,15 +90,15 @@ impl Encounter {
         }
     }
 
-    /// The stamp after a loss to a later time: past the line's write stamp, and for a store past its read mark too.
-    fn past(self) -> u64
-        ensures value { result ≡ stamp_past self.access (told_as self.told) }
+    /// The stamp to restart at: past the line's write stamp, and for a store its read mark too.
+    fn stamp_past(self) -> u64
+        ensures value { result ≡ stamp_past self.access self.line }
         ensures bound { result ≤ highest_stamp }
     {
-        let (read, _) = self.told.read;
+        let (read, _) = self.line.read_mark;
         let latest = match self.access {
-            Access::Read => self.told.written,
-            Access::Write { .. } => self.told.written.max(read),
+            Access::Read => self.line.write_stamp,
+            Access::Write { .. } => self.line.write_stamp.max(read),
         };
         u64::from(latest) + 1
     }

@@ -1,13 +1,16 @@
--- Writing the four bytes of a number where a line lies sets that line alone.
-use Rattle.std.proofs.Common.{◌≡◌, ℕ, ◌+◌, ◌*◌, ◌/◌, ◌%◌, ◌^◌, ◌<◌, Bool, true, false, eqb, ltb, ◌≢◌, List, [], ◌∷◌, length, get_or, set, refl, ◌∙◌, add-zero, arith, length-set, get_or-set_other, get_or-set_same, drop-set-lt}
+-- Writing the four bytes of a value at a line sets that line alone.
+use Rattle.std.proofs.Common.{◌≡◌, ℕ, ◌+◌, ◌*◌, ◌/◌, ◌%◌, ◌^◌, ◌<◌, Bool, true, false, eqb, ltb}
+use Rattle.std.proofs.Common.{◌≢◌, List, [], ◌∷◌, length, get_or, set, refl, ◌∙◌, add-zero, arith}
+use Rattle.std.proofs.Common.{length-set, get_or-set_other, get_or-set_same, drop-set-lt}
 use mathlib.Core.Path.{fun_ext}
 use native.Mathlib.Nat.{div-div-eq-div-mul}
 use Rattle.std.proofs.lemmas.Bool.{eqb-true, eqb-false, eq-eqb, lt-ltb}
-use Rattle.memory.specs.Lines.{byte_lines, little_endian, odd_bytes, put}
+use Rattle.memory.specs.Lines.{byte_lines, little_endian, leftover_bytes, lines_with}
 
 -- Four bytes written from a place on.
 abbrev pub four_set : List ℕ → ℕ → ℕ → ℕ → ℕ → ℕ → List ℕ
-four_set bytes place a b c d = set (set (set (set bytes place a) (place + 1) b) (place + 2) c) (place + 3) d
+four_set bytes place a b c d =
+    set (set (set (set bytes place a) (place + 1) b) (place + 2) c) (place + 3) d
 
 module _ (bytes : List ℕ) (place a b c d : ℕ) where
   four_apart :
@@ -31,26 +34,31 @@ bytes_of :
     → v % 256 + v / 256 % 256 * 256 + v / 65536 % 256 * 65536 + v / 16777216 % 256 * 16777216 ≡ v
 bytes_of v h =
     let top : v / 16777216 % 256 ≡ v / 16777216 = omega arith in
-    let next : v / 256 ≡ v / 256 % 256 + v / 65536 * 256 = omega (arith, div-div-eq-div-mul v 256 256) in
-    let third : v / 65536 ≡ v / 65536 % 256 + v / 16777216 * 256 = omega (arith, div-div-eq-div-mul v 65536 256) in
+    let next : v / 256 ≡ v / 256 % 256 + v / 65536 * 256 =
+    omega (arith, div-div-eq-div-mul v 256 256) in
+    let third : v / 65536 ≡ v / 65536 % 256 + v / 16777216 * 256 =
+    omega (arith, div-div-eq-div-mul v 65536 256) in
     rw top (four_digits v (v / 256) (v / 65536) (v / 16777216) _ _ _ (omega arith) next third)
 
--- The bytes of a value, written where a line lies.
+-- The bytes of a value, written at a line.
 abbrev pub line_set : List ℕ → ℕ → ℕ → List ℕ
-line_set bytes line v = four_set bytes (4 * line) (v % 256) (v / 256 % 256) (v / 65536 % 256) (v / 16777216 % 256)
+line_set bytes line v = four_set bytes (4 * line) (v % 256) (v / 256 % 256) (v / 65536 % 256)
+    (v / 16777216 % 256)
 
 module _ (bytes : List ℕ) (line value : ℕ) (h : line < length bytes / 4) (v : value < 2 ^ 32) where
   same_line : little_endian (line_set bytes line value) (4 * line) ≡ value
   same_line = four_number bytes (4 * line) _ _ _ _ (omega arith) ∙ bytes_of value v
 
   apart_line :
-      (n k : ℕ) → (n ≡ line → ⊥) → k < 4 → get_or (line_set bytes line value) (4 * n + k) 0 ≡ get_or bytes (4 * n + k) 0
+      (n k : ℕ) → (n ≡ line → ⊥) → k < 4
+      → get_or (line_set bytes line value) (4 * n + k) 0 ≡ get_or bytes (4 * n + k) 0
   apart_line n k ne l =
-      four_apart bytes (4 * line) _ _ _ _ (4 * n + k) (omega arith) (omega arith) (omega arith) (omega arith)
+      four_apart bytes (4 * line) _ _ _ _ (4 * n + k) (omega arith) (omega arith) (omega arith)
+      (omega arith)
 
   at_line :
       (n : ℕ) (t : Bool) → eqb n line ≡ t
-      → byte_lines (line_set bytes line value) n ≡ put (byte_lines bytes) line value n
+      → byte_lines (line_set bytes line value) n ≡ lines_with (byte_lines bytes) line value n
   at_line n true e =
       let same = eqb-true n line e in
       let room : ltb line (length bytes / 4) ≡ true = lt-ltb line (length bytes / 4) h in
@@ -65,15 +73,17 @@ module _ (bytes : List ℕ) (line value : ℕ) (h : line < length bytes / 4) (v 
 
   pub line_written :
       (four : List ℕ)
-      → four ≡ (value % 256) ∷ (value / 256 % 256) ∷ (value / 65536 % 256) ∷ (value / 16777216 % 256) ∷ []
-      → byte_lines (four_set bytes (4 * line) (get_or four 0 0) (get_or four 1 0) (get_or four 2 0) (get_or four 3 0))
-      ≡ put (byte_lines bytes) line value
+      → four ≡ (value % 256) ∷ (value / 256 % 256) ∷ (value / 65536 % 256)
+      ∷ (value / 16777216 % 256) ∷ []
+      → byte_lines (four_set bytes (4 * line) (get_or four 0 0) (get_or four 1 0) (get_or four 2 0)
+      (get_or four 3 0))
+      ≡ lines_with (byte_lines bytes) line value
   line_written four is = rw is (fun_ext (λ n. at_line n (eqb n line) refl))
 
--- The odd bytes at the end lie past every line.
+-- The bytes at the end that are in no line stay.
 pub odd_bytes_stay :
     (bytes : List ℕ) (line : ℕ) → line < length bytes / 4 → (a b c d : ℕ)
-    → odd_bytes (four_set bytes (4 * line) a b c d) ≡ odd_bytes bytes
+    → leftover_bytes (four_set bytes (4 * line) a b c d) ≡ leftover_bytes bytes
 odd_bytes_stay bytes line h a b c d =
     let l0 : 4 * line < 4 * (length bytes / 4) = omega arith in
     let l1 : 4 * line + 1 < 4 * (length bytes / 4) = omega arith in

@@ -1,11 +1,12 @@
-//! A memory of the caller's bytes.
+//! A memory made of the caller's bytes.
 ghost use Rattle.std.specs.Prelude.{[], ◌∷◌};
-ghost use Rattle.memory.specs.Lines.{byte_lines, odd_bytes};
+ghost use Rattle.memory.specs.Lines.{byte_lines, leftover_bytes};
 
-use crate::store::{Memory, no_such_line};
-use protocol::fault::Fault;
+use crate::memory::{Memory, no_such_line};
+use protocol::Fault;
 
-/// The caller's bytes, four to a line, least significant first. Odd bytes at the end are no line.
+/// The caller's bytes, four to a line, least significant first. Up to three bytes left over at the
+/// end are in no line.
 #[derive(Drop)]
 pub struct ByteMemory<'a> {
     pub bytes: &'a mut [u8],
@@ -16,7 +17,7 @@ impl<'a> Memory for ByteMemory<'a> {
 
     ghost lent = { λ m. m.bytes.ghost_name ∷ [] };
 
-    ghost spare = { λ m. odd_bytes m.bytes.now };
+    ghost spare = { λ m. leftover_bytes m.bytes.now };
 
     fn read(&self, line: u32) -> Result<u32, Fault> {
         let first = 4 * line as usize;
@@ -31,7 +32,6 @@ impl<'a> Memory for ByteMemory<'a> {
         if place >= self.bytes.len() / 4 {
             return Err(no_such_line(line));
         }
-        // Tried get_mut and copy_from_slice on the four bytes: what the slice then holds stayed without a proof.
         let first = 4 * place;
         let [a, b, c, d] = value.to_le_bytes();
         self.bytes[first] = a;

@@ -1,9 +1,14 @@
-//! Memories: what they mean, and three kinds of them.
+//! Memories: their contract, and three kinds of them.
 #![tactic(auto)]
 
-pub mod byte;
-pub mod split;
-pub mod store;
+mod byte;
+mod memory;
+mod split;
 #[cfg(test)]
 mod tests;
-pub mod word;
+mod word;
+
+pub use byte::ByteMemory;
+pub use memory::{Memory, no_such_line};
+pub use split::SplitMemory;
+pub use word::WordMemory;

@@ -1,11 +1,11 @@
-//! Two memories as one.
+//! Two memories joined into one.
 ghost use Rattle.std.specs.Prelude.{◌++◌};
 ghost use Rattle.memory.specs.Lines.{split_lines};
 
-use crate::store::Memory;
-use protocol::fault::Fault;
+use crate::memory::Memory;
+use protocol::Fault;
 
-/// Any two memories, split memories among them: the even lines are the first's, the odd lines the second's.
+/// Two memories of any kind: the first has the even lines, the second the odd lines.
 #[derive(Drop)]
 pub struct SplitMemory<E, O> {
     pub even: E,
@@ -13,11 +13,11 @@ pub struct SplitMemory<E, O> {
 }
 
 impl<E: Memory, O: Memory> Memory for SplitMemory<E, O> {
-    ghost at = { λ m. split_lines (E.Memory.at m.even) (O.Memory.at m.odd) };
+    ghost at = { λ m. split_lines (E.at m.even) (O.at m.odd) };
 
-    ghost lent = { λ m. E.Memory.lent m.even ++ O.Memory.lent m.odd };
+    ghost lent = { λ m. E.lent m.even ++ O.lent m.odd };
 
-    ghost spare = { λ m. E.Memory.spare m.even ++ O.Memory.spare m.odd };
+    ghost spare = { λ m. E.spare m.even ++ O.spare m.odd };
 
     fn read(&self, line: u32) -> Result<u32, Fault> {
         let value = if line % 2 == 0 {
@@ -25,16 +25,15 @@ impl<E: Memory, O: Memory> Memory for SplitMemory<E, O> {
         } else {
             self.odd.read((line - 1) / 2)
         };
-        value.map_err(|fault| fault.told_of(u64::from(line)))
+        value.map_err(|fault| fault.with_number(u64::from(line)))
     }
 
-    // Of the shape of `read`, but a part is lent for writing here, which no one function picks for both.
     fn write(&mut self, line: u32, value: u32) -> Result<(), Fault> {
         let done = if line % 2 == 0 {
             self.even.write(line / 2, value)
         } else {
             self.odd.write((line - 1) / 2, value)
         };
-        done.map_err(|fault| fault.told_of(u64::from(line)))
+        done.map_err(|fault| fault.with_number(u64::from(line)))
     }
 }

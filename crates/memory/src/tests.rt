@@ -1,16 +1,16 @@
-//! Worked reads and writes of each kind of memory.
+//! Reads and writes of each kind of memory.
 ghost use Rattle.std.specs.Prelude.{◌≡◌};
-ghost use Rattle.memory.specs.Lines.{word_lines, byte_lines, put};
+ghost use Rattle.memory.specs.Lines.{word_lines, byte_lines, lines_with};
 
 use crate::byte::ByteMemory;
+use crate::memory::Memory;
 use crate::split::SplitMemory;
-use crate::store::Memory;
 use crate::word::WordMemory;
-use protocol::fault::{Fault, Layer, Refusal};
+use protocol::{Fault, Layer, Refusal};
 use std::process::Abort;
 
-/// The refusal of a line, written out.
-fn lacking(line: u32) -> Fault {
+/// The refusal of a line.
+fn no_line(line: u32) -> Fault {
     Fault {
         refusal: Refusal::NoSuchLine,
         layer: Layer::Memory,
@@ -18,32 +18,32 @@ fn lacking(line: u32) -> Fault {
     }
 }
 
-/// Each of these lines has that value.
+/// Checks that each of these lines has its value.
 fn has<M: Memory, const N: usize>(rt: &impl Abort, memory: &M, lines: [(u32, u32); N]) {
     for (line, value) in lines {
         assert_eq!(rt; memory.read(line), Ok(value));
     }
 }
 
-/// Each of these lines is refused, to read and to write.
+/// Checks that reads and writes of each of these lines are refused.
 fn lacks<M: Memory, const N: usize>(rt: &impl Abort, memory: &mut M, lines: [u32; N]) {
     for line in lines {
-        assert_eq!(rt; memory.read(line), Err(lacking(line)));
-        assert_eq!(rt; memory.write(line, 1), Err(lacking(line)));
+        assert_eq!(rt; memory.read(line), Err(no_line(line)));
+        assert_eq!(rt; memory.write(line, 1), Err(no_line(line)));
     }
 }
 
-/// What is known to whoever lends words: once the memory is gone, they hold what was written.
+/// The lender of words knows that they hold what was written, once the memory is dropped.
 fn stored_word(words: &mut [u32], line: u32, value: u32) -> Result<(), Fault>
-    ensures { word_lines words.new ≡ put (word_lines words.old) line value }
+    ensures { word_lines words.new ≡ lines_with (word_lines words.old) line value }
 {
     let mut memory = WordMemory { words };
     memory.write(line, value)
 }
 
-/// The same for whoever lends bytes.
+/// The same for bytes.
 fn stored_bytes(bytes: &mut [u8], line: u32, value: u32) -> Result<(), Fault>
-    ensures { byte_lines bytes.new ≡ put (byte_lines bytes.old) line value }
+    ensures { byte_lines bytes.new ≡ lines_with (byte_lines bytes.old) line value }
 {
     let mut memory = ByteMemory { bytes };
     memory.write(line, value)
@@ -61,13 +61,13 @@ fn words_are_lines(rt: HostRuntime) {
 }
 
 #[test]
-fn what_was_lent_keeps_what_was_stored(rt: HostRuntime) {
+fn lent_slices_keep_what_was_stored(rt: HostRuntime) {
     let (mut words, mut bytes) = ([1, 2], [1, 2, 3, 4, 5]);
     assert_eq!(rt; stored_word(&mut words, 1, 9), Ok(()));
-    assert_eq!(rt; stored_word(&mut words, 2, 8), Err(lacking(2)));
+    assert_eq!(rt; stored_word(&mut words, 2, 8), Err(no_line(2)));
     assert_eq!(rt; words, [1, 9]);
     assert_eq!(rt; stored_bytes(&mut bytes, 0, 9), Ok(()));
-    assert_eq!(rt; stored_bytes(&mut bytes, 1, 8), Err(lacking(1)));
+    assert_eq!(rt; stored_bytes(&mut bytes, 1, 8), Err(no_line(1)));
     assert_eq!(rt; bytes, [9, 0, 0, 0, 5]);
 }
 
@@ -91,7 +91,7 @@ fn odd_bytes_are_no_line(rt: HostRuntime) {
         };
         assert_eq!(rt; memory.write(0, 0).is_ok(), length >= 4);
         assert_eq!(rt; memory.read(1).is_ok(), length >= 8);
-        assert_eq!(rt; memory.read(2), Err(lacking(2)));
+        assert_eq!(rt; memory.read(2), Err(no_line(2)));
         assert_eq!(rt; bytes[0] == 0 && bytes[3] == 0, length >= 4);
         assert!(rt; bytes[4] == 1);
     }

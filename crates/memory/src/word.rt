@@ -1,9 +1,9 @@
-//! A memory of the caller's 32-bit words.
+//! A memory made of the caller's 32-bit words.
 ghost use Rattle.std.specs.Prelude.{[], ◌∷◌};
 ghost use Rattle.memory.specs.Lines.{word_lines};
 
-use crate::store::{Memory, no_such_line};
-use protocol::fault::Fault;
+use crate::memory::{Memory, no_such_line};
+use protocol::Fault;
 
 /// The caller's words, line 0 first.
 #[derive(Drop)]
@@ -24,7 +24,6 @@ impl<'a> Memory for WordMemory<'a> {
     }
 
     fn write(&mut self, line: u32, value: u32) -> Result<(), Fault> {
-        // Tried get_mut: once the loan of an element is over, a proof knows no element of the slice.
         let place = line as usize;
         if place >= self.words.len() {
             return Err(no_such_line(line));

@@ -1,9 +1,9 @@
--- The calls by their letters.
-use Rattle.std.specs.Prelude.{◌≡◌, ℕ, cond, List, [], ◌∷◌, map, Some, None, Option, ◌==◌}
+-- The letters of the operations.
+use Rattle.std.specs.Prelude.{◌≡◌, ℕ, List, [], ◌∷◌, map, find, Some, Option, ◌==◌}
 use Rattle.protocol.specs.declared.call.Op.{Op}
 use Rattle.protocol.specs.declared.call.Op.TheVariants.{Begin, Load, Store, Commit, Drop, Fetch}
 
--- The letter by which calls files and listings name what is asked for: B, L, S, C, D and F.
+-- The letter that stands for an operation in calls files and listings: B, L, S, C, D and F.
 abbrev pub op_letter : Op → ℕ
 op_letter Begin = 66
 op_letter (Load line) = 76
@@ -12,25 +12,23 @@ op_letter Commit = 67
 op_letter Drop = 68
 op_letter Fetch = 70
 
--- What can be asked for at a line and a value.
+-- Every operation at a line and a value.
 abbrev pub ops_at : ℕ → ℕ → List Op
 ops_at line value = Begin ∷ Load line ∷ Store line value ∷ Commit ∷ Drop ∷ Fetch ∷ []
 
--- The first of some that a letter names.
-abbrev pub named_in : ℕ → List Op → Option Op
-named_in letter [] = None
-named_in letter (op ∷ rest) = cond (letter == op_letter op) (Some op) (named_in letter rest)
-
--- What a letter asks for, at a line and a value that only loads and stores have a use for.
+-- The operation that a letter stands for. Only loads use the line, and only stores use the line and
+-- the value.
 abbrev pub op_named : ℕ → ℕ → ℕ → Option Op
-op_named letter line value = named_in letter (ops_at line value)
+op_named letter line value = find (λ op. letter == op_letter op) (ops_at line value)
 
--- Each of those that can be asked for is what its own letter names.
+-- The letter of each operation stands for that operation.
 abbrev pub LettersNameBack : Type 0
 LettersNameBack =
-    (line value : ℕ) → map (λ op. op_named (op_letter op) line value) (ops_at line value) ≡ map Some (ops_at line value)
+    (line value : ℕ)
+    → map (λ op. op_named (op_letter op) line value) (ops_at line value) ≡ map Some
+    (ops_at line value)
 
--- What a letter names has that letter.
+-- The operation that a letter stands for has that letter.
 abbrev pub NamesKeepLetters : Type 0
 NamesKeepLetters =
     (letter line value : ℕ) (op : Op) → op_named letter line value ≡ Some op → op_letter op ≡ letter

@@ -1,15 +1,18 @@
--- The refusals by their numbers, and who tells which.
+-- The numbers of the refusals, and the layer of each.
 use Rattle.std.specs.Prelude.{◌≡◌, ℕ}
 use Rattle.protocol.specs.declared.fault.Fault.{Fault}
 use Rattle.protocol.specs.declared.fault.Layer.{Layer}
 use Rattle.protocol.specs.declared.fault.Layer.TheVariants.{Memory, File, Machine}
 use Rattle.protocol.specs.declared.fault.Refusal.{Refusal}
-use Rattle.protocol.specs.declared.fault.Refusal.TheVariants.{NoSuchWarp, WarpIdle, WarpNotIdle, OutcomePending}
-use Rattle.protocol.specs.declared.fault.Refusal.TheVariants.{NothingToFetch, NoSuchLine, LogFull, ClockSpent}
-use Rattle.protocol.specs.declared.fault.Refusal.TheVariants.{BadSize, BadStamp, BadMark, BadVersion, CutShort}
+use Rattle.protocol.specs.declared.fault.Refusal.TheVariants.{NoSuchWarp, WarpIdle, WarpNotIdle}
+use Rattle.protocol.specs.declared.fault.Refusal.TheVariants.{OutcomePending}
+use Rattle.protocol.specs.declared.fault.Refusal.TheVariants.{NothingToFetch, NoSuchLine, LogFull}
+use Rattle.protocol.specs.declared.fault.Refusal.TheVariants.{ClockSpent}
+use Rattle.protocol.specs.declared.fault.Refusal.TheVariants.{BadSize, BadStamp, BadMark}
+use Rattle.protocol.specs.declared.fault.Refusal.TheVariants.{BadVersion, CutShort}
 use Rattle.protocol.specs.declared.fault.Refusal.TheVariants.{BadLetter, TooManyRows}
 
--- The number by which listings name a refusal.
+-- The number that listings print for a refusal.
 abbrev pub refusal_number : Refusal → ℕ
 refusal_number NoSuchWarp = 1
 refusal_number WarpIdle = 2
@@ -27,11 +30,11 @@ refusal_number CutShort = 13
 refusal_number BadLetter = 14
 refusal_number TooManyRows = 15
 
--- No two refusals have one number.
-abbrev pub NumbersTellApart : Type 0
-NumbersTellApart = (one other : Refusal) → refusal_number one ≡ refusal_number other → one ≡ other
+-- No two refusals have the same number.
+abbrev pub NumbersDiffer : Type 0
+NumbersDiffer = (one other : Refusal) → refusal_number one ≡ refusal_number other → one ≡ other
 
--- Who tells that a call is refused: of a line that is lacking the memory, of all else the machine.
+-- The layer that refuses a call: the memory if it does not have the line, and else the machine.
 abbrev pub call_layer : Refusal → Layer
 call_layer NoSuchWarp = Machine
 call_layer WarpIdle = Machine
@@ -49,14 +52,15 @@ call_layer CutShort = Machine
 call_layer BadLetter = Machine
 call_layer TooManyRows = Machine
 
--- A call is refused: why, and the offending warp, line, stamp or count.
+-- The refusal of a call: why, and the offending warp, line, stamp or count.
 abbrev pub fault_in_call : Refusal → ℕ → Fault
 fault_in_call why number = record { refusal = why; layer = call_layer why; number = number }
 
--- A calls file is damaged: how, and at which byte, counted from 0. Whatever reading finds is told as the file's.
+-- The rejection of a calls file, at a byte counted from 0. Its layer is always the file.
 abbrev pub fault_in_file : Refusal → ℕ → Fault
 fault_in_file why place = record { refusal = why; layer = File; number = place }
 
--- The same refusal, told of another number.
-abbrev pub told_of : Fault → ℕ → Fault
-told_of fault number = record { refusal = fault.refusal; layer = fault.layer; number = number }
+-- The same refusal with another offending number.
+abbrev pub fault_with_number : Fault → ℕ → Fault
+fault_with_number fault number =
+    record { refusal = fault.refusal; layer = fault.layer; number = number }

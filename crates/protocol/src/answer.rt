@@ -1,50 +1,48 @@
-//! What the machine answers, and how a load or a store comes out.
+//! The answers of the machine, and the outcomes of loads and stores.
 ghost use Rattle.std.specs.Prelude.{◌≡◌, Some};
 ghost use Rattle.protocol.specs.Answers.{answer_of, answer_word, answer_text, cause_number};
 
 use std::fmt;
 
-/// Why a transaction is gone, in the order of the numbers that listings print.
+/// Why a transaction aborts (is `gone`), in the order of the numbers that listings print.
 #[derive(Clone, Copy, PartialEq, Eq, Debug)]
 pub enum Cause {
     /// A logically later transaction wrote the line.
     WrittenLater = 1,
-    /// A logically later transaction read the line that is to be stored to.
+    /// A logically later transaction read the line of the store.
     ReadLater,
     /// The line is reserved and the queue has no place for the request.
     QueueFull,
-    /// The book has no slot for the line that is to be stored to.
+    /// The book has no slot for the line of the store.
     NoSlot,
 }
 
-// The cause and the next stamp stand in the variants themselves: a struct of the two would have no method, and each
-// match would name it besides.
-/// How a load or a store comes out.
+/// The outcome of a load or a store.
 #[derive(Clone, Copy, PartialEq, Eq, Debug)]
 pub enum Outcome {
     /// The load has its value.
     Value { value: u32 },
     /// The store is in the log.
     Stored,
-    /// The transaction is gone, and its warp goes on at the next stamp.
+    /// The transaction is aborted, and its warp begins the next one at stamp `next`.
     Gone { cause: Cause, next: u64 },
 }
 
-/// The answer to a call that is not refused. A refusal is no answer: it comes as an `Err` with its fault.
+/// The answer to a call. A refused call gets no answer, but an `Err` with a fault.
 #[derive(Clone, Copy, PartialEq, Eq, Debug)]
 pub enum Answer {
     /// The call is done. Listings print `ok`.
     Done,
-    /// The value of the line that was loaded.
+    /// The value of the loaded line.
     Val { value: u32 },
-    /// The load or the store waits.
+    /// The load or the store waits in the queue.
     Wait,
-    /// The transaction is gone, and its warp goes on at the next stamp.
+    /// The transaction is aborted, and its warp begins the next one at stamp `next`.
     Gone { cause: Cause, next: u64 },
 }
 
 impl Cause {
-    /// The number by which listings name the cause.
+    /// The number that listings print for the cause.
     pub fn number(self) -> u8
         ensures { result ≡ cause_number self }
     {
@@ -52,7 +50,7 @@ impl Cause {
     }
 }
 
-/// The answer that tells an outcome.
+/// The answer that reports an outcome.
 impl From<Outcome> for Answer {
     ghost from_gives = { λ outcome answer. answer ≡ answer_of outcome };
 
@@ -66,7 +64,7 @@ impl From<Outcome> for Answer {
 }
 
 impl Answer {
-    /// The word by which listings name the answer.
+    /// The word that listings print for the answer.
     pub fn word(self) -> &'static str
         ensures { result.now ≡ answer_word self }
     {
@@ -79,7 +77,7 @@ impl Answer {
     }
 }
 
-/// The answer as listings print it: its word, and the numbers that it tells.
+/// The answer as listings print it: its word, then its numbers.
 impl fmt::Display for Answer {
     ghost output = { λ answer. Some (answer_text answer) };
 

@@ -1,25 +1,26 @@
-//! The calls that a warp makes of the machine.
+//! The calls that warps make to the machine.
 ghost use Rattle.std.specs.Prelude.{◌≡◌};
 ghost use Rattle.protocol.specs.Calls.{op_letter, op_named, LettersNameBack, NamesKeepLetters};
 
-/// What a warp asks for.
+/// The operation that a warp asks for.
 #[derive(Clone, Copy, PartialEq, Eq, Debug)]
 pub enum Op {
-    /// Opens a transaction.
+    /// Begins a transaction.
     Begin,
-    /// The value of a line.
+    /// Reads the value of a line.
     Load { line: u32 },
-    /// A new value for a line, once the transaction commits.
+    /// Gives a line a new value, once the transaction commits.
     Store { line: u32, value: u32 },
-    /// Ends the transaction and writes what it stored to memory.
+    /// Ends the transaction and writes its stores to memory.
     Commit,
-    /// Ends the transaction and forgets what it stored.
+    /// Ends the transaction and discards its stores.
     Drop,
-    /// The outcome of a load or a store that had to wait.
+    /// Fetches the outcome of a load or a store that had to wait.
     Fetch,
 }
 
-/// One call: which warp asks, and for what. Any number may be asked; the machine refuses what it lacks.
+/// One call: the warp that makes it, and the operation. The machine refuses a warp or a line that
+/// it does not have.
 #[derive(Clone, Copy, PartialEq, Eq, Debug)]
 pub struct Call {
     pub warp: u32,
@@ -27,8 +28,7 @@ pub struct Call {
 }
 
 impl Op {
-    // No From: it is the way back of `named`, which is no TryFrom, and reads as such beside it.
-    /// The letter by which calls files and listings name what is asked for.
+    /// The letter that stands for the operation in calls files and listings.
     pub fn letter(self) -> char
         ensures { result ≡ op_letter self }
     {
@@ -42,8 +42,9 @@ impl Op {
         }
     }
 
-    // A form that is fixed (docs/DECISIONS.md): a match on char literals. A letter alone makes no call: no TryFrom.
-    /// What a letter asks for, at a line and a value that only loads and stores have a use for.
+    // Keep this form: docs/DECISIONS.md.
+    /// The operation that a letter stands for. Only loads use the line, and only stores use the
+    /// line and the value.
     pub fn named(letter: char, line: u32, value: u32) -> Option<Op>
         ensures answer { result ≡ op_named letter line value }
         ensures back { LettersNameBack }

@@ -1,11 +1,13 @@
-//! A refusal, with who tells it and the number that it is about.
+//! Refusals: why, which layer refuses, and the offending number.
 ghost use Rattle.std.specs.Prelude.{◌≡◌, Some};
 ghost use Rattle.protocol.specs.Answers.{refusal_text};
-ghost use Rattle.protocol.specs.Faults.{refusal_number, NumbersTellApart, call_layer, fault_in_call, fault_in_file, told_of};
+ghost use Rattle.protocol.specs.Faults.{refusal_number, NumbersDiffer, call_layer, fault_in_call};
+ghost use Rattle.protocol.specs.Faults.{fault_in_file, fault_with_number};
 
 use std::fmt;
 
-/// Why a call is refused or a calls file is damaged: a closed list, in the order of the numbers that listings print.
+/// Why a call is refused or a calls file is rejected, in the order of the numbers that listings
+/// print.
 #[derive(Clone, Copy, PartialEq, Eq, Debug)]
 pub enum Refusal {
     /// The machine has no such warp.
@@ -18,7 +20,7 @@ pub enum Refusal {
     OutcomePending,
     /// Fetch, on an open warp.
     NothingToFetch,
-    /// Load or store, of a line that the memory lacks or that no book can number.
+    /// Load or store, of a line that the memory or the book does not have.
     NoSuchLine,
     /// Store, with a full log.
     LogFull,
@@ -36,11 +38,11 @@ pub enum Refusal {
     CutShort,
     /// A letter that names no book or no call, or the book's letter is missing.
     BadLetter,
-    /// The file goes on after the last row that it may have.
+    /// The file has more rows than the maximum.
     TooManyRows,
 }
 
-/// The part of the product that tells a refusal.
+/// The layer of the program that refuses.
 #[derive(Clone, Copy, PartialEq, Eq, Debug)]
 pub enum Layer {
     Memory,
@@ -48,8 +50,8 @@ pub enum Layer {
     Machine,
 }
 
-/// A refusal as it passes up, whole: why, who says so, and the offending number, which is a warp, a line, a stamp, a
-/// count or a byte's place in a file.
+/// A refusal: why, which layer refuses, and the offending number, which is a warp, a line, a stamp,
+/// a count or a byte's position in a file.
 #[derive(Clone, Copy, PartialEq, Eq, Debug)]
 pub struct Fault {
     pub refusal: Refusal,
@@ -58,15 +60,16 @@ pub struct Fault {
 }
 
 impl Refusal {
-    /// The number by which listings name the refusal.
+    /// The number that listings print for the refusal.
     pub fn number(self) -> u8
         ensures answer { result ≡ refusal_number self }
-        ensures apart { NumbersTellApart }
+        ensures apart { NumbersDiffer }
     {
         self as u8
     }
 
-    /// The part that tells the refusal of a call: of a line that is lacking the memory, of all else the machine.
+    /// The layer that refuses a call: the memory if it does not have the line, and else the
+    /// machine.
     fn call_layer(self) -> Layer
         ensures { result ≡ call_layer self }
     {
@@ -100,7 +103,7 @@ impl fmt::Display for Fault {
 }
 
 impl Fault {
-    /// What a call of the machine is refused with.
+    /// The refusal of a call.
     pub fn in_call(refusal: Refusal, number: u64) -> Fault
         ensures { result ≡ fault_in_call refusal number }
     {
@@ -111,14 +114,14 @@ impl Fault {
         }
     }
 
-    /// The same refusal, told of the number that the caller asked for.
-    pub fn told_of(self, number: u64) -> Fault
-        ensures { result ≡ told_of self number }
+    /// The same refusal with another offending number.
+    pub fn with_number(self, number: u64) -> Fault
+        ensures { result ≡ fault_with_number self number }
     {
         Fault { number, ..self }
     }
 
-    /// What is wrong with a calls file, and at which byte, counted from 0.
+    /// The rejection of a calls file, at a byte counted from 0.
     pub fn in_file(refusal: Refusal, place: usize) -> Fault
         ensures { result ≡ fault_in_file refusal place }
     {

@@ -1,9 +1,13 @@
-//! What is asked of the machine, and how it refuses.
+//! The calls, answers and refusals of the machine, and its limits.
 #![tactic(auto)]
 
-pub mod answer;
-pub mod call;
-pub mod fault;
+mod answer;
+mod call;
+mod fault;
 pub mod limits;
 #[cfg(test)]
 mod tests;
+
+pub use answer::{Answer, Cause, Outcome};
+pub use call::{Call, Op};
+pub use fault::{Fault, Layer, Refusal};

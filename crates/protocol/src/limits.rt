@@ -1,19 +1,19 @@
-//! The machine's numbers.
+//! The machine's limits.
 
-/// A line's number is below this.
+/// The number of lines that a book has: a line's number is below this.
 pub const LINES: u32 = 4096;
 
-/// A warp's number is below this.
+/// The maximum number of warps: a warp's number is below this.
 pub const WARPS: u32 = 32;
 
-/// A log holds so many stores at most.
+/// The maximum number of stores in a log.
 pub const STORES: usize = 32;
 
-/// A line may have so many requests that wait.
+/// The maximum number of requests that wait for one line.
 pub const LINE_ROOM: usize = 4;
 
-/// So many lines may be waited for at once.
+/// The maximum number of lines that requests wait for at once.
 pub const QUEUE_ROOM: usize = 4;
 
-/// The end of the clock: no transaction begins at a stamp above it.
+/// The last stamp of the clock: no transaction begins at a later one.
 pub const LAST_STAMP: u32 = 1_000_000_000;

@@ -1,4 +1,4 @@
-//! Numbers, letters and tellers, one by one.
+//! The number and layer of each refusal, and the letter of each operation.
 use crate::call::Op;
 use crate::fault::{Fault, Layer, Refusal};
 
@@ -36,7 +36,7 @@ fn refusals_count_from_one(rt: HostRuntime) {
 }
 
 #[test]
-fn the_memory_tells_of_lines_alone(rt: HostRuntime) {
+fn the_memory_refuses_lines_alone(rt: HostRuntime) {
     for refusal in REFUSALS {
         let layer = if refusal.number() == 6 {
             Layer::Memory
@@ -52,20 +52,20 @@ fn the_memory_tells_of_lines_alone(rt: HostRuntime) {
 }
 
 #[test]
-fn a_refusal_told_of_another_number(rt: HostRuntime) {
+fn a_refusal_with_another_number(rt: HostRuntime) {
     let lacking = Fault::in_call(Refusal::NoSuchLine, 3);
     assert_eq!(rt;
-        lacking.told_of(u64::MAX),
+        lacking.with_number(u64::MAX),
         fault(Refusal::NoSuchLine, Layer::Memory, u64::MAX)
     );
     assert_eq!(rt;
-        Fault::in_file(Refusal::CutShort, 8).told_of(0),
+        Fault::in_file(Refusal::CutShort, 8).with_number(0),
         fault(Refusal::CutShort, Layer::File, 0)
     );
 }
 
 #[test]
-fn letters_there_and_back(rt: HostRuntime) {
+fn letters_name_operations_and_back(rt: HostRuntime) {
     let ops = [
         Op::Begin,
         Op::Load { line: 4 },

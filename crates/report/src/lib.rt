@@ -1,5 +1,11 @@
-//! What is said of a listing that is to be compared.
+//! Compares a listing with that of a calls file, row by row.
 #![tactic(auto)]
 
-pub mod report;
+mod compare;
+mod report;
 mod shown;
+#[cfg(test)]
+mod tests;
+
+pub use compare::{Comparison, find_difference};
+pub use report::{Report, compare_listing};

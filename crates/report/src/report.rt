@@ -1,22 +1,23 @@
-//! Whether a listing is that of a calls file, and if not, where it differs first and why ours is as it is.
+//! Whether a listing is that of a calls file, and if not, where it differs first and why our row is
+//! as it is.
 ghost use Rattle.std.specs.Prelude.{◌≡◌, ◌↔◌, IfOk, IsTrue};
 ghost use Rattle.listing.specs.Listing.{listing_text};
 
+use crate::compare::{Comparison, find_difference};
 use crate::shown::{add_lines_under, add_shown};
-use compare::compare::{Comparison, find_difference};
-use explain::explain::explain;
-use listing::listing::list;
+use explain::annotate;
+use listing::list;
 use std::alloc::{AllocError, Global};
 
-/// What is said of a listing, and whether it matches.
+/// Whether a listing matches, and a text that says so or shows the first difference.
 #[derive(Drop)]
 pub struct Report {
     pub matches: bool,
     pub text: String,
 }
 
-/// Compares a listing with that of a calls file. Nothing is said only where memory is wanting.
-pub fn make_report(heap: Global, calls: &[u8], listing: &[u8]) -> Result<Report, AllocError>
+/// Compares a listing with that of a calls file. The only error is that memory runs out.
+pub fn compare_listing(heap: Global, calls: &[u8], listing: &[u8]) -> Result<Report, AllocError>
     ensures { IfOk result (λ r. IsTrue r.matches ↔ (listing_text calls.now ≡ listing.now)) }
 {
     let ours = list(heap, calls)?;
@@ -27,13 +28,13 @@ pub fn make_report(heap: Global, calls: &[u8], listing: &[u8]) -> Result<Report,
         }),
         Comparison::Differs { row, ours, theirs } => Ok(Report {
             matches: false,
-            text: tell_difference(heap, calls, row, ours, theirs)?,
+            text: describe_difference(heap, calls, row, ours, theirs)?,
         }),
     }
 }
 
-// The row that differs, in both listings, and why ours is as it is.
-fn tell_difference(
+// The row that differs, in both listings, and why our row is as it is.
+fn describe_difference(
     heap: Global,
     calls: &[u8],
     row: usize,
@@ -47,7 +48,7 @@ fn tell_difference(
     let mut text = add_shown(text, theirs)?;
     if ours.is_some() {
         text.push_str("why ours is so:\n")?;
-        text = add_lines_under(text, explain(heap, calls)?.as_str(), row)?;
+        text = add_lines_under(text, annotate(heap, calls)?.as_str(), row)?;
     }
     Ok(text)
 }

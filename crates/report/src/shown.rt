@@ -1,7 +1,8 @@
-//! Rows as they are shown.
+//! Rows as the report shows them.
 use std::alloc::AllocError;
 
-/// The text with a row on a line of its own. Its line feed is not shown, nor that there is none where a listing has ended.
+/// Adds a row on a line of its own, without its line feed. A row that lacks one is marked, and so
+/// is the end of a listing.
 pub(crate) fn add_shown(mut text: String, row: Option<&[u8]>) -> Result<String, AllocError> {
     match row {
         Some([shown @ .., b'\n']) => writeln!(text, "{}", shown.escape_ascii())?,
@@ -11,7 +12,7 @@ pub(crate) fn add_shown(mut text: String, row: Option<&[u8]>) -> Result<String, 
     Ok(text)
 }
 
-/// The text with the indented lines that stand under a row of an explanation.
+/// Adds the indented lines that stand under a row of an explanation.
 pub(crate) fn add_lines_under(
     text: String,
     explanation: &str,

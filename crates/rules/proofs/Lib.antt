@@ -1,16 +1,16 @@
 mod ListFacts
-mod Replay
-mod Serial
+mod SerialAccount
+mod SerialOrders
 mod History
-mod Closing
-mod BookMoves
+mod Commits
+mod BookCalls
 mod Ledgers
-mod Tallies
+mod StoreCounts
 mod Verdicts
 mod Logs
 mod Invariant
-mod Moves
-mod Tries
+mod OneWarp
+mod Retries
 mod Calls
 pub mod AccountsLaw
 pub mod Explanation

@@ -1,72 +1,83 @@
--- The two accounts: what the machine's answers say its transactions did, and what the same transactions do alone, one
--- after another, in a chosen order.
-use Rattle.std.specs.Prelude.{◌≡◌, ℕ, ◌<◌, cond, List, [], ◌∷◌, ◌++◌, Some, None, fold, Option, ◌==◌, nat_lt}
+-- The two accounts of a run: what its committed transactions did by the machine's answers, and what
+-- they do when each is executed alone, one after another, in a chosen order. The run is
+-- serializable in that order exactly if the two are equal.
+use Rattle.std.specs.Prelude.{◌≡◌, ℕ, ◌<◌, cond, List, [], ◌∷◌, ◌++◌, Some, None, fold, Option}
+use Rattle.std.specs.Prelude.{◌==◌, nat_lt}
 use Rattle.memory.specs.Lines.{Lines}
 use Rattle.rules.specs.Lists.{last_of, occurrences}
-use Rattle.rules.specs.Steps.{written}
-use Rattle.rules.specs.Transactions.{own_store, writes, stores_of, named, writers, last_found, Found, Deed, Transaction}
-use Rattle.rules.specs.Transactions.{own, loaded, stored}
+use Rattle.rules.specs.Steps.{lines_after_stores}
+use Rattle.rules.specs.Transactions.{last_own_store, is_written, transaction_stores}
+use Rattle.rules.specs.Transactions.{transaction_named, writers, committed_source, Source, Action}
+use Rattle.rules.specs.Transactions.{Transaction}
+use Rattle.rules.specs.Transactions.{own_store, loaded, stored}
 
--- What a load got: its value, and whose store it found.
-pub record Got : Type 0 where
+-- What a load got: its value, and where it found it.
+pub record LoadResult : Type 0 where
   pub value : Option ℕ
-  pub found : Found
+  pub source : Source
 
--- What the loads of each committed transaction got, the latest first; each line's last value; each line's writers.
+-- What the loads of each committed transaction got, latest first; the last value of each line; and
+-- the writers of each line.
 pub record Account : Type 0 where
-  pub loads : ℕ → List Got
+  pub loads : ℕ → List LoadResult
   pub last_values : Lines
   pub line_writers : ℕ → List ℕ
 
 -- What a transaction's loads got in the run.
-abbrev pub got_by : List Deed → List Got
-got_by [] = []
-got_by (loaded d ∷ earlier_deeds) = record { value = Some d.value; found = d.found } ∷ got_by earlier_deeds
-got_by (stored s ∷ earlier_deeds) = got_by earlier_deeds
+abbrev pub load_results : List Action → List LoadResult
+load_results [] = []
+load_results (loaded d ∷ before) =
+    record { value = Some d.value; source = d.source } ∷ load_results before
+load_results (stored s ∷ before) = load_results before
 
--- The machine's account: what was recorded, and the memory after the run.
+-- The machine's account: the recorded loads, and the memory after the run.
 abbrev pub account_of : List Transaction → Lines → Account
 account_of txs memory =
     record {
-      loads = λ name. got_by (named txs name).deeds;
+      loads = λ name. load_results (transaction_named txs name).actions;
       last_values = memory;
       line_writers = writers txs;
     }
 
--- A load alone takes its own transaction's last store to the line, or else the line's value and last writer.
-abbrev pub gets_at : Option ℕ → Option ℕ → Found → Got
-gets_at (Some mine) value found = record { value = Some mine; found = own }
-gets_at None value found = record { value = value; found = found }
+-- What a load gets when its transaction is executed alone: the transaction's own last store to the
+-- line, or else the line's value and last writer.
+abbrev pub load_result_alone : Option ℕ → Option ℕ → Source → LoadResult
+load_result_alone (Some mine) value source = record { value = Some mine; source = own_store }
+load_result_alone None value source = record { value = value; source = source }
 
--- What a transaction's loads get where an account has come to.
-abbrev pub gets_alone : Account → List Deed → List Got
-gets_alone a [] = []
-gets_alone a (loaded d ∷ earlier_deeds) =
-    gets_at (own_store earlier_deeds d.line) (a.last_values d.line) (last_found (last_of (a.line_writers d.line)))
-    ∷ gets_alone a earlier_deeds
-gets_alone a (stored s ∷ earlier_deeds) = gets_alone a earlier_deeds
+-- What a transaction's loads get when it is executed alone, after the transactions of an account.
+abbrev pub load_results_alone : Account → List Action → List LoadResult
+load_results_alone a [] = []
+load_results_alone a (loaded d ∷ before) =
+    load_result_alone (last_own_store before d.line) (a.last_values d.line)
+    (committed_source (last_of (a.line_writers d.line)))
+    ∷ load_results_alone a before
+load_results_alone a (stored s ∷ before) = load_results_alone a before
 
--- One transaction runs alone: its loads get what they get, then it writes its stores in order and joins their lines'
--- writers.
-unfoldable pub runs_alone : List Transaction → Account → ℕ → Account
-runs_alone txs a name =
+-- The account after one more transaction is executed alone: its loads get their values, and then it
+-- writes its stores in order and becomes a writer of their lines.
+unfoldable pub account_after : List Transaction → Account → ℕ → Account
+account_after txs a name =
+    let actions = (transaction_named txs name).actions in
     record {
-      loads = λ n. cond (n == name) (gets_alone a (named txs name).deeds) (a.loads n);
-      last_values = written a.last_values (stores_of (named txs name).deeds);
-      line_writers =
-          λ line. a.line_writers line ++ cond (writes (named txs name).deeds line) (name ∷ []) [];
+      loads = λ n. cond (n == name) (load_results_alone a actions) (a.loads n);
+      last_values = lines_after_stores a.last_values (transaction_stores actions);
+      line_writers = λ line. a.line_writers line ++ cond (is_written actions line) (name ∷ []) [];
     }
 
--- All run alone, in an order, from the first memory and no writers.
-abbrev pub alone : Lines → List Transaction → List ℕ → Account
-alone memory txs order =
-    fold (runs_alone txs) (record { loads = λ n. []; last_values = memory; line_writers = λ line. [] }) order
+-- The account of all transactions executed alone, in an order, from the initial memory and with no
+-- writers.
+abbrev pub serial_account : Lines → List Transaction → List ℕ → Account
+serial_account memory txs order =
+    fold (account_after txs)
+    (record { loads = λ n. []; last_values = memory; line_writers = λ line. [] }) order
 
--- An order of the committed transactions has each name once and no other.
+-- The order contains each name below n once, and nothing else.
 abbrev pub EachOnce : List ℕ → ℕ → Type 0
 EachOnce order n = (name : ℕ) → occurrences name order ≡ cond (nat_lt name n) 1 0
 
--- Two accounts of n transactions are equal: every load's value and find, every line's last value and writers.
+-- Two accounts of n transactions are equal: the value and the source of every load, and the last
+-- value and the writers of every line.
 pub record EqualAccounts (n : ℕ) (a b : Account) : Type 0 where
   pub same_loads : (name : ℕ) → name < n → a.loads name ≡ b.loads name
   pub same_values : (line : ℕ) → a.last_values line ≡ b.last_values line

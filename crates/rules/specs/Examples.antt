@@ -1,117 +1,133 @@
--- Small runs over the exact book that show that the accounts and the laws can tell right from wrong.
+-- The laws reject wrong machines, by example: small runs over the exact book.
 use Rattle.std.specs.Prelude.{◌≡◌, ℕ, true, List, [], ◌∷◌, map, length, fold}
 use Rattle.protocol.specs.declared.call.Call.{Call}
 use Rattle.memory.specs.Lines.{Lines, word_lines}
 use Rattle.book.specs.Exact.{exact, exact_new}
-use Rattle.protocol.specs.declared.answer.Outcome.TheVariants.{Value, Stored, Gone as Lost}
+use Rattle.protocol.specs.declared.answer.Outcome.TheVariants.{Value, Stored, Gone as OutcomeGone}
 use Rattle.rules.specs.declared.state.Phase.{Phase}
 use Rattle.rules.specs.declared.state.Phase.TheVariants.{Idle, Open, Waiting, Settled}
-use Rattle.rules.specs.State.{WarpRow, Machine}
-use Rattle.rules.specs.Queue.{product}
-use Rattle.rules.specs.Making.{make}
-use Rattle.rules.specs.Runs.{Run, goes_on}
-use Rattle.rules.specs.Logs.{entry}
-use Rattle.rules.specs.Transactions.{by, at_first, loaded, stored, load_deed, Transaction}
+use Rattle.rules.specs.State.{WarpRow, MachineState}
+use Rattle.rules.specs.Queue.{product_policy}
+use Rattle.rules.specs.Making.{new_machine}
+use Rattle.rules.specs.Runs.{Run, run_with_call}
+use Rattle.rules.specs.Logs.{log_entry}
+use Rattle.rules.specs.Transactions.{committed_store, initial_memory, loaded, stored, load_action}
+use Rattle.rules.specs.Transactions.{Transaction}
 use Rattle.rules.specs.Ledger.{Ledger, ledger_of}
-use Rattle.rules.specs.Account.{account_of, alone, EqualAccounts}
-use Rattle.rules.specs.LogicalTime.{before_in_time, Clash}
+use Rattle.rules.specs.Account.{account_of, serial_account, EqualAccounts}
+use Rattle.rules.specs.LogicalTime.{is_earlier, Conflict}
 use Rattle.rules.specs.Laws.{Leads, WaitsEnd}
 use Rattle.rules.specs.Worked.{begin_by, load_by, store_by, commit_by, fetch_by, exact_run}
 
--- A run to look at: first stamps, first line values, calls.
+-- A run to look at: its first stamps, its first line values and its calls.
 pub record Sample : Type 0 where
   pub stamps : List ℕ
   pub values : List ℕ
   pub calls : List Call
 
--- It is turned; its ledger; what it commits.
+-- The run of a sample.
 abbrev pub sample_run : Sample → Run exact
 sample_run s = exact_run s.stamps s.values s.calls
 
+-- The ledger of its run.
 abbrev pub sample_ledger : Sample → Ledger
 sample_ledger s = ledger_of (sample_run s).events
 
+-- The transactions that its run commits.
 abbrev pub sample_commits : Sample → List Transaction
 sample_commits s = (sample_ledger s).committed
 
--- Of transactions between a first and a last memory: two clash, the first is earlier in logical time, and only with the
--- first in front do the accounts agree.
-pub record Apart (first_memory : Lines) (txs : List Transaction) (last_memory : Lines) (a b : ℕ) : Type 0 where
-  pub clash : Clash txs a b
-  pub in_time : before_in_time txs a b ≡ true
-  pub agrees : EqualAccounts 2 (account_of txs last_memory) (alone first_memory txs (a ∷ b ∷ []))
-  pub differs : EqualAccounts 2 (account_of txs last_memory) (alone first_memory txs (b ∷ a ∷ [])) → ⊥
+-- Two transactions, between an initial and a final memory, conflict. The first is earlier in
+-- logical time, and the accounts are equal only if it is executed first.
+pub record TransactionsAgreeInOneOrder (initial : Lines) (txs : List Transaction) (final : Lines)
+    (a b : ℕ) : Type 0 where
+  pub conflict : Conflict txs a b
+  pub in_time : is_earlier txs a b ≡ true
+  pub agrees : EqualAccounts 2 (account_of txs final) (serial_account initial txs (a ∷ b ∷ []))
+  pub differs : EqualAccounts 2 (account_of txs final) (serial_account initial txs (b ∷ a ∷ [])) → ⊥
 
--- The same of a run that commits two.
-pub record TellsApart (s : Sample) (a b : ℕ) : Type 0 where
+-- This holds for the two transactions that a run commits.
+pub record RunAgreesInOneOrder (s : Sample) (a b : ℕ) : Type 0 where
   pub commits_two : length (sample_commits s) ≡ 2
-  pub apart : Apart (word_lines s.values) (sample_commits s) (sample_run s).machine.lines a b
+  pub apart : TransactionsAgreeInOneOrder (word_lines s.values) (sample_commits s)
+      (sample_run s).machine.lines a b
 
--- Two write one line.
+-- Two transactions store to one line.
 abbrev pub two_writers : Sample
 two_writers =
     record {
       stamps = 0 ∷ 5 ∷ [];
       values = 7 ∷ [];
-      calls = begin_by 0 ∷ store_by 0 0 8 ∷ commit_by 0 ∷ begin_by 1 ∷ store_by 1 0 9 ∷ commit_by 1 ∷ [];
+      calls = begin_by 0 ∷ store_by 0 0 8 ∷ commit_by 0 ∷ begin_by 1 ∷ store_by 1 0 9 ∷ commit_by 1
+          ∷ [];
     }
 
+-- They must be executed in the order of logical time.
 abbrev pub TwoWriters : Type 0
-TwoWriters = TellsApart two_writers 0 1
+TwoWriters = RunAgreesInOneOrder two_writers 0 1
 
--- One writes a line, and one that is later reads it.
+-- One transaction stores to a line, and a later one loads it.
 abbrev pub writer_reader : Sample
 writer_reader =
     record {
       stamps = 0 ∷ 5 ∷ [];
       values = 7 ∷ [];
-      calls = begin_by 0 ∷ store_by 0 0 8 ∷ commit_by 0 ∷ begin_by 1 ∷ load_by 1 0 ∷ commit_by 1 ∷ [];
+      calls = begin_by 0 ∷ store_by 0 0 8 ∷ commit_by 0 ∷ begin_by 1 ∷ load_by 1 0 ∷ commit_by 1
+          ∷ [];
     }
 
+-- The writer must be executed first.
 abbrev pub WriterThenReader : Type 0
-WriterThenReader = TellsApart writer_reader 0 1
+WriterThenReader = RunAgreesInOneOrder writer_reader 0 1
 
--- One reads a line, and one that is later writes it and commits first: the order of the commits does not agree, the
--- order of logical time does.
+-- One transaction loads a line, and a later one stores to it and commits first.
 abbrev pub reader_writer : Sample
 reader_writer =
     record {
       stamps = 0 ∷ 5 ∷ [];
       values = 7 ∷ [];
-      calls = begin_by 0 ∷ begin_by 1 ∷ load_by 0 0 ∷ store_by 1 0 8 ∷ commit_by 1 ∷ commit_by 0 ∷ [];
+      calls = begin_by 0 ∷ begin_by 1 ∷ load_by 0 0 ∷ store_by 1 0 8 ∷ commit_by 1 ∷ commit_by 0
+          ∷ [];
     }
 
+-- The reader must be executed first: logical time decides, and not the order of the commits.
 abbrev pub ReaderThenWriter : Type 0
-ReaderThenWriter = TellsApart reader_writer 1 0
+ReaderThenWriter = RunAgreesInOneOrder reader_writer 1 0
 
--- One warp commits two transactions at one stamp: the place of the commit decides.
+-- One warp commits two transactions at one stamp.
 abbrev pub same_stamp : Sample
 same_stamp =
     record {
       stamps = 5 ∷ [];
       values = 7 ∷ [];
-      calls = begin_by 0 ∷ load_by 0 0 ∷ commit_by 0 ∷ begin_by 0 ∷ store_by 0 0 9 ∷ commit_by 0 ∷ [];
+      calls = begin_by 0 ∷ load_by 0 0 ∷ commit_by 0 ∷ begin_by 0 ∷ store_by 0 0 9 ∷ commit_by 0
+          ∷ [];
     }
 
+-- They must be executed in the order of their commits.
 abbrev pub SameStamp : Type 0
-SameStamp = TellsApart same_stamp 0 1
+SameStamp = RunAgreesInOneOrder same_stamp 0 1
 
--- A load waits for a commit, and found that very commit.
+-- A load waits for a commit.
 abbrev pub settled_load : Sample
 settled_load =
     record {
       stamps = 0 ∷ 3 ∷ [];
       values = 7 ∷ [];
-      calls = begin_by 0 ∷ begin_by 1 ∷ store_by 0 0 8 ∷ load_by 1 0 ∷ commit_by 0 ∷ fetch_by 1 ∷ commit_by 1 ∷ [];
+      calls = begin_by 0 ∷ begin_by 1 ∷ store_by 0 0 8 ∷ load_by 1 0 ∷ commit_by 0 ∷ fetch_by 1
+          ∷ commit_by 1 ∷ [];
     }
 
-abbrev pub SettledLoadFound : Type 0
-SettledLoadFound =
+-- The load reads the value of that commit.
+abbrev pub SettledLoadSeesCommit : Type 0
+SettledLoadSeesCommit =
     sample_commits settled_load
-    ≡ record { stamp = 0; warp = 0; deeds = stored (entry 0 8) ∷ [] }
-    ∷ record { stamp = 3; warp = 1; deeds = loaded (load_deed 0 8 (by 0)) ∷ [] } ∷ []
+    ≡ record { stamp = 0; warp = 0; actions = stored (log_entry 0 8) ∷ [] }
+    ∷ record { stamp = 3; warp = 1; actions = loaded (load_action 0 8 (committed_store 0)) ∷ [] }
+    ∷ []
 
--- Three wait in a chain: warp 3 for warp 2, warp 2 for warp 1, warp 1 for warp 0, which does not wait.
+-- Three warps wait in a chain: warp 3 for warp 2, warp 2 for warp 1, and warp 1 for warp 0, which
+-- does not wait.
 abbrev pub chain : Sample
 chain =
     record {
@@ -123,37 +139,43 @@ chain =
           ∷ load_by 1 0 ∷ load_by 2 1 ∷ load_by 3 2 ∷ [];
     }
 
+-- Three steps lead from warp 3 to a warp that does not wait.
 abbrev pub ChainOfThree : Type 0
 ChainOfThree = Leads (sample_run chain).machine (sample_ledger chain) 3 3
 
--- A wrong machine takes the next stamp of a request that came out as gone at once, and not when it is fetched: while
--- its warp still holds lines.
-abbrev pub stamp_taken : Phase → ℕ → ℕ
-stamp_taken Idle stamp = stamp
-stamp_taken Open stamp = stamp
-stamp_taken Waiting stamp = stamp
-stamp_taken (Settled (Value value)) stamp = stamp
-stamp_taken (Settled Stored) stamp = stamp
-stamp_taken (Settled (Lost cause next)) stamp = next
+-- A wrong machine: a warp whose request is aborted takes its next stamp at once, while it still
+-- holds lines, and not when it fetches the outcome. This is its stamp.
+abbrev pub next_stamp_taken : Phase → ℕ → ℕ
+next_stamp_taken Idle stamp = stamp
+next_stamp_taken Open stamp = stamp
+next_stamp_taken Waiting stamp = stamp
+next_stamp_taken (Settled (Value value)) stamp = stamp
+next_stamp_taken (Settled Stored) stamp = stamp
+next_stamp_taken (Settled (OutcomeGone cause next)) stamp = next
 
-abbrev pub row_taken : WarpRow → WarpRow
-row_taken warp_row = record warp_row { stamp = stamp_taken warp_row.phase warp_row.stamp }
+-- The row of a warp that has taken its next stamp early.
+abbrev pub row_with_stamp_taken : WarpRow → WarpRow
+row_with_stamp_taken warp_row =
+    record warp_row { stamp = next_stamp_taken warp_row.phase warp_row.stamp }
 
-abbrev pub taken_early : Machine exact → Machine exact
-taken_early m = record m { warp_rows = map row_taken m.warp_rows }
+-- The wrong machine, where every warp does so.
+abbrev pub with_stamps_taken : MachineState exact → MachineState exact
+with_stamps_taken m = record m { warp_rows = map row_with_stamp_taken m.warp_rows }
 
--- One call more of it, and a run.
-abbrev pub goes_on_early : Run exact → Call → Run exact
-goes_on_early r call =
-    let right = goes_on (product exact) r call in
-    record right { machine = taken_early right.machine }
+-- A run of the wrong machine with one more call.
+abbrev pub wrong_run_with_call : Run exact → Call → Run exact
+wrong_run_with_call r call =
+    let right = run_with_call (product_policy exact) r call in
+    record right { machine = with_stamps_taken right.machine }
 
-abbrev pub run_early : Sample → Run exact
-run_early s =
-    fold goes_on_early (record { machine = make exact (word_lines s.values) exact_new s.stamps; events = [] }) s.calls
+-- The wrong machine's run of a sample.
+abbrev pub wrong_run : Sample → Run exact
+wrong_run s =
+    let first = new_machine exact (word_lines s.values) exact_new s.stamps in
+    fold wrong_run_with_call (record { machine = first; events = [] }) s.calls
 
--- Warps 1 and 2 wait for warp 0's line, both at stamp 5, and warp 3 at stamp 6 for a line of warp 2. Warp 0 commits: warp
--- 1 takes the line, and warp 2's load comes out as gone, with the next stamp 7.
+-- Warps 1 and 2 wait at stamp 5 for warp 0's line, and warp 3 waits at stamp 6 for a line of warp
+-- 2. Warp 0 commits: warp 1 gets the line, and the load of warp 2 is aborted with the next stamp 7.
 abbrev pub lost_holder : Sample
 lost_holder =
     record {
@@ -166,23 +188,38 @@ lost_holder =
           ∷ commit_by 0 ∷ [];
     }
 
--- The right machine's waits end; the wrong one's do not, as the law of waits has it: warp 3 waits for a later stamp.
+-- On the right machine one step leads from warp 3 to a warp that does not wait.
 abbrev pub StampKeptUntilFetched : Type 0
 StampKeptUntilFetched = Leads (sample_run lost_holder).machine (sample_ledger lost_holder) 3 1
 
-abbrev pub StampTakenEarly : Type 0
-StampTakenEarly = WaitsEnd (run_early lost_holder).machine (ledger_of (run_early lost_holder).events) → ⊥
+-- The wrong machine breaks the law of waits: warp 3 waits for a warp with a later stamp.
+abbrev pub EarlyStampBreaksWaits : Type 0
+EarlyStampBreaksWaits =
+    WaitsEnd (wrong_run lost_holder).machine (ledger_of (wrong_run lost_holder).events) → ⊥
 
--- What a wrong machine might commit: both loaded 7, and both stored. No order explains it.
+-- What a wrong machine might commit, a lost update: two transactions both loaded 7, and both
+-- stored.
 abbrev pub lost_update : List Transaction
 lost_update =
-    record { stamp = 0; warp = 0; deeds = stored (entry 0 8) ∷ loaded (load_deed 0 7 at_first) ∷ [] }
-    ∷ record { stamp = 0; warp = 1; deeds = stored (entry 0 9) ∷ loaded (load_deed 0 7 at_first) ∷ [] } ∷ []
+    record {
+      stamp = 0;
+      warp = 0;
+      actions = stored (log_entry 0 8)
+          ∷ loaded (load_action 0 7 initial_memory) ∷ [];
+    }
+    ∷ record {
+      stamp = 0;
+      warp = 1;
+      actions = stored (log_entry 0 9)
+          ∷ loaded (load_action 0 7 initial_memory) ∷ [];
+    } ∷ []
 
--- An order explains it if the accounts agree.
+-- An order explains these transactions: executed alone in it, they give their account.
 abbrev pub Explains : List ℕ → Type 0
 Explains order =
-    EqualAccounts 2 (account_of lost_update (word_lines (9 ∷ []))) (alone (word_lines (7 ∷ [])) lost_update order)
+    EqualAccounts 2 (account_of lost_update (word_lines (9 ∷ [])))
+    (serial_account (word_lines (7 ∷ [])) lost_update order)
 
+-- Neither order explains the lost update.
 abbrev pub LostUpdateUnexplained : Type 0
 LostUpdateUnexplained = (Explains (0 ∷ 1 ∷ []) → ⊥) × (Explains (1 ∷ 0 ∷ []) → ⊥)

@@ -1,32 +1,36 @@
--- Logical time, clashes, and orders that keep the one among the other.
+-- Logical time, conflicts, and the orders in which conflicting transactions keep to logical time.
 use Rattle.std.specs.Prelude.{◌≡◌, ℕ, ◌<◌, Bool, true, ◌&&◌, ◌||◌, List, length, ◌==◌, nat_lt}
 use Rattle.book.specs.Time.{earlier}
-use Rattle.rules.specs.Lists.{stands_before}
-use Rattle.rules.specs.Transactions.{writes, reads_line, named, Deed, Transaction}
+use Rattle.rules.specs.Lists.{is_before}
+use Rattle.rules.specs.Transactions.{is_written, is_read, transaction_named, Action, Transaction}
 
--- One committed transaction is earlier than another in logical time: by its stamp at its begin, then its warp, then its
--- commit's place.
-abbrev pub before_in_time : List Transaction → ℕ → ℕ → Bool
-before_in_time txs a b =
-    let s = named txs a in
-    let t = named txs b in
+-- One committed transaction is earlier than another in logical time: by its stamp at its begin,
+-- then by its warp, then by its place among the commits.
+abbrev pub is_earlier : List Transaction → ℕ → ℕ → Bool
+is_earlier txs a b =
+    let s = transaction_named txs a in
+    let t = transaction_named txs b in
     earlier (s.stamp, s.warp) (t.stamp, t.warp)
     || (s.stamp == t.stamp && (s.warp == t.warp && nat_lt a b))
 
--- A transaction uses the lines that it loaded or stored to.
-abbrev pub uses : List Deed → ℕ → Bool
-uses deeds line = writes deeds line || reads_line deeds line
+-- The transaction loaded or stored to the line.
+abbrev pub is_used : List Action → ℕ → Bool
+is_used actions line = is_written actions line || is_read actions line
 
--- Two clash at a line that both use and at least one stored to.
-abbrev pub clash_at : List Deed → List Deed → ℕ → Bool
-clash_at a b line = uses a line && (uses b line && (writes a line || writes b line))
+-- Two transactions conflict at a line: both use it, and at least one stored to it.
+abbrev pub is_conflict_at : List Action → List Action → ℕ → Bool
+is_conflict_at a b line =
+    is_used a line && (is_used b line && (is_written a line || is_written b line))
 
--- Two clash if they do at some line.
-abbrev pub Clash : List Transaction → ℕ → ℕ → Type 0
-Clash txs a b = (line : ℕ) × (clash_at (named txs a).deeds (named txs b).deeds line ≡ true)
+-- Two transactions conflict at some line.
+abbrev pub Conflict : List Transaction → ℕ → ℕ → Type 0
+Conflict txs a b =
+    let s = transaction_named txs a in
+    let t = transaction_named txs b in
+    (line : ℕ) × (is_conflict_at s.actions t.actions line ≡ true)
 
--- Of every two that clash, the earlier in logical time stands first.
-abbrev pub InLogicalOrder : List Transaction → List ℕ → Type 0
-InLogicalOrder txs order =
-    (a b : ℕ) → a < length txs → b < length txs → Clash txs a b → before_in_time txs a b ≡ true
-    → stands_before order a b ≡ true
+-- Of every two transactions that conflict, the earlier in logical time comes first in the order.
+abbrev pub IsInLogicalOrder : List Transaction → List ℕ → Type 0
+IsInLogicalOrder txs order =
+    (a b : ℕ) → a < length txs → b < length txs → Conflict txs a b → is_earlier txs a b ≡ true
+    → is_before order a b ≡ true

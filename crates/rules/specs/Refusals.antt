@@ -1,6 +1,8 @@
--- Refusals: which calls are refused, in the order of their numbers.
-use Rattle.std.specs.Prelude.{ℕ, Bool, cond, ◌&&◌, length, is_some, Some, None, Option, nat_le, nat_lt}
-use Rattle.std.specs.Option.{option_or}
+-- Refusals: which calls are refused, and why. Of several reasons the one with the lowest number
+-- counts.
+use Rattle.std.specs.Prelude.{ℕ, Bool, cond, ◌&&◌, length, is_some, Some, None, Option, nat_le}
+use Rattle.std.specs.Prelude.{nat_lt}
+use Rattle.std.specs.Option.{option_map, option_or}
 use Rattle.protocol.specs.Faults.{fault_in_call}
 use Rattle.protocol.specs.Limits.{line_limit, log_limit, last_stamp}
 use Rattle.protocol.specs.declared.call.Call.{Call}
@@ -8,73 +10,79 @@ use Rattle.protocol.specs.declared.call.Op.{Op}
 use Rattle.protocol.specs.declared.call.Op.TheVariants.{Begin, Load, Store, Commit, Drop, Fetch}
 use Rattle.protocol.specs.declared.fault.Fault.{Fault}
 use Rattle.protocol.specs.declared.fault.Refusal.{Refusal}
-use Rattle.protocol.specs.declared.fault.Refusal.TheVariants.{NoSuchWarp, WarpIdle, WarpNotIdle, OutcomePending}
-use Rattle.protocol.specs.declared.fault.Refusal.TheVariants.{NothingToFetch, NoSuchLine, LogFull, ClockSpent}
+use Rattle.protocol.specs.declared.fault.Refusal.TheVariants.{NoSuchWarp, WarpIdle, WarpNotIdle}
+use Rattle.protocol.specs.declared.fault.Refusal.TheVariants.{OutcomePending}
+use Rattle.protocol.specs.declared.fault.Refusal.TheVariants.{NothingToFetch, NoSuchLine, LogFull}
+use Rattle.protocol.specs.declared.fault.Refusal.TheVariants.{ClockSpent}
 use Rattle.book.specs.Meaning.{Kind}
 use Rattle.rules.specs.declared.state.Phase.{Phase}
 use Rattle.rules.specs.declared.state.Phase.TheVariants.{Idle, Open, Waiting, Settled}
-use Rattle.rules.specs.State.{Machine, warp_row_of}
+use Rattle.rules.specs.State.{MachineState, warp_row_of}
 
--- What a warp may not ask for while it has no transaction, while it may go on, and while the outcome of a load or a
--- store that had to wait is not fetched.
-abbrev pub idle_refuses : Op → Option Refusal
-idle_refuses Begin = None
-idle_refuses (Load line) = Some WarpIdle
-idle_refuses (Store line value) = Some WarpIdle
-idle_refuses Commit = Some WarpIdle
-idle_refuses Drop = Some WarpIdle
-idle_refuses Fetch = Some WarpIdle
+-- What a warp without a transaction may not ask for.
+abbrev pub idle_refusal : Op → Option Refusal
+idle_refusal Begin = None
+idle_refusal (Load line) = Some WarpIdle
+idle_refusal (Store line value) = Some WarpIdle
+idle_refusal Commit = Some WarpIdle
+idle_refusal Drop = Some WarpIdle
+idle_refusal Fetch = Some WarpIdle
 
-abbrev pub open_refuses : Op → Option Refusal
-open_refuses Begin = Some WarpNotIdle
-open_refuses (Load line) = None
-open_refuses (Store line value) = None
-open_refuses Commit = None
-open_refuses Drop = None
-open_refuses Fetch = Some NothingToFetch
+-- What a warp may not ask for while its transaction can go on.
+abbrev pub open_refusal : Op → Option Refusal
+open_refusal Begin = Some WarpNotIdle
+open_refusal (Load line) = None
+open_refusal (Store line value) = None
+open_refusal Commit = None
+open_refusal Drop = None
+open_refusal Fetch = Some NothingToFetch
 
-abbrev pub pending_refuses : Op → Option Refusal
-pending_refuses Begin = Some WarpNotIdle
-pending_refuses (Load line) = Some OutcomePending
-pending_refuses (Store line value) = Some OutcomePending
-pending_refuses Commit = Some OutcomePending
-pending_refuses Drop = Some OutcomePending
-pending_refuses Fetch = None
+-- What a warp may not ask for until it has fetched the outcome of a load or a store that waited.
+abbrev pub pending_refusal : Op → Option Refusal
+pending_refusal Begin = Some WarpNotIdle
+pending_refusal (Load line) = Some OutcomePending
+pending_refusal (Store line value) = Some OutcomePending
+pending_refusal Commit = Some OutcomePending
+pending_refusal Drop = Some OutcomePending
+pending_refusal Fetch = None
 
-abbrev pub phase_refuses : Phase → Op → Option Refusal
-phase_refuses Idle op = idle_refuses op
-phase_refuses Open op = open_refuses op
-phase_refuses Waiting op = pending_refuses op
-phase_refuses (Settled outcome) op = pending_refuses op
+-- What a warp may not ask for in a phase.
+abbrev pub phase_refusal : Phase → Op → Option Refusal
+phase_refusal Idle op = idle_refusal op
+phase_refusal Open op = open_refusal op
+phase_refusal Waiting op = pending_refusal op
+phase_refusal (Settled outcome) op = pending_refusal op
 
--- A refusal, if there is one, as it is told: with the layer that tells it and the offending number.
-abbrev pub faulty : Option Refusal → ℕ → Option Fault
-faulty None number = None
-faulty (Some why) number = Some (fault_in_call why number)
+-- The fault for a refusal, if there is one: the refusal with the offending number.
+abbrev pub refusal_fault : Option Refusal → ℕ → Option Fault
+refusal_fault refusal number = option_map (λ why. fault_in_call why number) refusal
 
--- A call is refused if a test fails.
-abbrev pub unless : Bool → Refusal → ℕ → Option Fault
-unless test why number = cond test None (Some (fault_in_call why number))
+-- The fault for a refusal with a number, unless a test holds.
+abbrev pub fault_unless : Bool → Refusal → ℕ → Option Fault
+fault_unless test why number = cond test None (Some (fault_in_call why number))
 
 module _ {k : Kind} where
-  -- A line that a load or a store may name: the memory has it and a book can number it.
-  abbrev pub has_line : Machine k → ℕ → Bool
+  -- A load or a store may name the line: the memory has it, and a book can number it.
+  abbrev pub has_line : MachineState k → ℕ → Bool
   has_line m line = nat_lt line line_limit && is_some (m.lines line)
 
-  -- A clock that is spent, a line that is lacking, a full log.
-  abbrev pub number_fault : Machine k → ℕ → Op → Option Fault
-  number_fault m w Begin = unless (nat_le (warp_row_of m w).stamp last_stamp) ClockSpent (warp_row_of m w).stamp
-  number_fault m w (Load line) = unless (has_line m line) NoSuchLine line
+  -- The fault of a call with a bad number: the clock has run out, there is no such line, or the log
+  -- is full.
+  abbrev pub number_fault : MachineState k → ℕ → Op → Option Fault
+  number_fault m w Begin =
+      let stamp = (warp_row_of m w).stamp in fault_unless (nat_le stamp last_stamp) ClockSpent stamp
+  number_fault m w (Load line) = fault_unless (has_line m line) NoSuchLine line
   number_fault m w (Store line value) =
-      option_or (unless (has_line m line) NoSuchLine line)
-      (unless (nat_lt (length (warp_row_of m w).log) log_limit) LogFull (length (warp_row_of m w).log))
+      let logged = length (warp_row_of m w).log in
+      option_or (fault_unless (has_line m line) NoSuchLine line)
+      (fault_unless (nat_lt logged log_limit) LogFull logged)
   number_fault m w Commit = None
   number_fault m w Drop = None
   number_fault m w Fetch = None
 
-  -- All refusals, in the order of their numbers: the first is told.
-  abbrev pub fault_of : Machine k → Call → Option Fault
+  -- The fault of a call, if it is refused: the first one in the order of the refusals.
+  abbrev pub fault_of : MachineState k → Call → Option Fault
   fault_of m call =
-      option_or (unless (nat_lt call.warp (length m.warp_rows)) NoSuchWarp call.warp)
-      (option_or (faulty (phase_refuses (warp_row_of m call.warp).phase call.op) call.warp)
+      option_or (fault_unless (nat_lt call.warp (length m.warp_rows)) NoSuchWarp call.warp)
+      (option_or (refusal_fault (phase_refusal (warp_row_of m call.warp).phase call.op) call.warp)
       (number_fault m call.warp call.op))

@@ -1,75 +1,83 @@
--- Transactions: what they did, and whose store each load found.
-use Rattle.std.specs.Prelude.{ℕ, ◌+◌, Bool, false, cond, ◌||◌, List, [], ◌∷◌, ◌++◌, length, is_some, Some, None, filter, Option, ◌==◌, slice_index_or}
-use Rattle.rules.specs.Lists.{upto}
+-- Transactions: what they did, and where each load found its value.
+use Rattle.std.specs.Prelude.{ℕ, ◌+◌, Bool, false, cond, ◌||◌, List, [], ◌∷◌, ◌++◌, length, is_some}
+use Rattle.std.specs.Prelude.{Some, None, filter, Option, ◌==◌, slice_index_or}
+use Rattle.rules.specs.Lists.{numbers_below}
 use Rattle.rules.specs.Logs.{LogEntry}
 
--- Whose store a load found: its own transaction's, that of a committed transaction, by its name, or none: the line had
--- its value from the first memory. The name of a committed transaction is its place among the commits, from 0.
-pub data Found : Type 0 where
-  own : Found
-  by : ℕ → Found
-  at_first : Found
+-- Where a load found its value: in a store of its own transaction, in a store of a committed
+-- transaction, given by its name, or in the initial memory. The name of a committed transaction is
+-- its place among the commits, from 0.
+pub data Source : Type 0 where
+  own_store : Source
+  committed_store : ℕ → Source
+  initial_memory : Source
 
--- A load that a transaction did: its line, the value that it got, and whose store it found.
-pub record LoadDeed : Type 0 where
+-- A load of a transaction: its line, the value that it got, and where it found the value.
+pub record LoadAction : Type 0 where
   pub line : ℕ
   pub value : ℕ
-  pub found : Found
+  pub source : Source
 
--- What a transaction did: a load, or a store.
-pub data Deed : Type 0 where
-  loaded : LoadDeed → Deed
-  stored : LogEntry → Deed
+-- What a transaction did: a load or a store.
+pub data Action : Type 0 where
+  loaded : LoadAction → Action
+  stored : LogEntry → Action
 
-abbrev pub load_deed : ℕ → ℕ → Found → LoadDeed
-load_deed line value found = record { line = line; value = value; found = found }
+-- A load, from its parts.
+abbrev pub load_action : ℕ → ℕ → Source → LoadAction
+load_action line value source = record { line = line; value = value; source = source }
 
--- A transaction: its warp's stamp at its begin, its warp, and what it did, the latest first.
+-- A transaction: its warp's stamp at its begin, its warp, and its loads and stores, latest first.
 pub record Transaction : Type 0 where
   pub stamp : ℕ
   pub warp : ℕ
-  pub deeds : List Deed
+  pub actions : List Action
 
 -- The value that a transaction last stored to a line, if it stored to it.
-abbrev pub own_store : List Deed → ℕ → Option ℕ
-own_store [] line = None
-own_store (loaded d ∷ earlier_deeds) line = own_store earlier_deeds line
-own_store (stored s ∷ earlier_deeds) line = cond (s.line == line) (Some s.value) (own_store earlier_deeds line)
+abbrev pub last_own_store : List Action → ℕ → Option ℕ
+last_own_store [] line = None
+last_own_store (loaded d ∷ before) line = last_own_store before line
+last_own_store (stored s ∷ before) line =
+    cond (s.line == line) (Some s.value) (last_own_store before line)
 
--- It stored to a line; it loaded a line.
-abbrev pub writes : List Deed → ℕ → Bool
-writes deeds line = is_some (own_store deeds line)
+-- The transaction stored to the line.
+abbrev pub is_written : List Action → ℕ → Bool
+is_written actions line = is_some (last_own_store actions line)
 
-abbrev pub reads_line : List Deed → ℕ → Bool
-reads_line [] line = false
-reads_line (loaded d ∷ earlier_deeds) line = d.line == line || reads_line earlier_deeds line
-reads_line (stored s ∷ earlier_deeds) line = reads_line earlier_deeds line
+-- The transaction loaded the line.
+abbrev pub is_read : List Action → ℕ → Bool
+is_read [] line = false
+is_read (loaded d ∷ before) line = d.line == line || is_read before line
+is_read (stored s ∷ before) line = is_read before line
 
--- How often it stored to a line.
-abbrev pub times_stored : List Deed → ℕ → ℕ
-times_stored [] line = 0
-times_stored (loaded d ∷ earlier_deeds) line = times_stored earlier_deeds line
-times_stored (stored s ∷ earlier_deeds) line = cond (s.line == line) 1 0 + times_stored earlier_deeds line
+-- How often the transaction stored to the line.
+abbrev pub store_count : List Action → ℕ → ℕ
+store_count [] line = 0
+store_count (loaded d ∷ before) line = store_count before line
+store_count (stored s ∷ before) line = cond (s.line == line) 1 0 + store_count before line
 
--- Its stores, in the order made.
-abbrev pub stores_of : List Deed → List LogEntry
-stores_of [] = []
-stores_of (loaded d ∷ earlier_deeds) = stores_of earlier_deeds
-stores_of (stored s ∷ earlier_deeds) = stores_of earlier_deeds ++ s ∷ []
+-- The stores of a transaction, in the order in which they were made.
+abbrev pub transaction_stores : List Action → List LogEntry
+transaction_stores [] = []
+transaction_stores (loaded d ∷ before) = transaction_stores before
+transaction_stores (stored s ∷ before) = transaction_stores before ++ s ∷ []
 
--- What a name past all commits is taken for.
+-- What a name past all commits stands for.
 abbrev pub no_transaction : Transaction
-no_transaction = record { stamp = 0; warp = 0; deeds = [] }
+no_transaction = record { stamp = 0; warp = 0; actions = [] }
 
--- The committed transaction of a name.
-abbrev pub named : List Transaction → ℕ → Transaction
-named txs name = slice_index_or txs name no_transaction
+-- The committed transaction with a name.
+abbrev pub transaction_named : List Transaction → ℕ → Transaction
+transaction_named txs name = slice_index_or txs name no_transaction
 
--- The names of the transactions that committed a store to a line, in commit order.
+-- The names of the committed transactions that stored to a line, in commit order.
 abbrev pub writers : List Transaction → ℕ → List ℕ
-writers txs line = filter (λ name. writes (named txs name).deeds line) (upto (length txs))
+writers txs line =
+    filter (λ name. is_written (transaction_named txs name).actions line)
+    (numbers_below (length txs))
 
--- What a load finds where others wrote: the last writer, or what the first memory had.
-abbrev pub last_found : Option ℕ → Found
-last_found None = at_first
-last_found (Some name) = by name
+-- Where a load finds the value of a line that its own transaction did not store to: in the last
+-- writer's store, or in the initial memory.
+abbrev pub committed_source : Option ℕ → Source
+committed_source None = initial_memory
+committed_source (Some name) = committed_store name

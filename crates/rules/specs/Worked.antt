@@ -1,5 +1,7 @@
--- The worked runs over the exact book: each call with its answer, and what the lines hold in the end.
-use Rattle.std.specs.Prelude.{◌≡◌, ℕ, List, [], ◌∷◌, ◌++◌, map, length, Ok, Err, Result, Some, Option}
+-- Worked runs over the exact book: each call with its answer, and the values of the lines at the
+-- end.
+use Rattle.std.specs.Prelude.{◌≡◌, ℕ, List, [], ◌∷◌, ◌++◌, map, length, Ok, Err, Result, Some}
+use Rattle.std.specs.Prelude.{Option}
 use Rattle.protocol.specs.Faults.{fault_in_call}
 use Rattle.protocol.specs.Limits.{last_stamp}
 use Rattle.protocol.specs.declared.answer.Answer.{Answer}
@@ -11,12 +13,12 @@ use Rattle.protocol.specs.declared.fault.Fault.{Fault}
 use Rattle.protocol.specs.declared.fault.Refusal.TheVariants.{WarpIdle, ClockSpent}
 use Rattle.memory.specs.Lines.{word_lines}
 use Rattle.book.specs.Exact.{exact, exact_new}
-use Rattle.rules.specs.Lists.{upto}
-use Rattle.rules.specs.Queue.{product}
-use Rattle.rules.specs.Making.{make}
+use Rattle.rules.specs.Lists.{numbers_below}
+use Rattle.rules.specs.Queue.{product_policy}
+use Rattle.rules.specs.Making.{new_machine}
 use Rattle.rules.specs.Runs.{Event, Run, run}
 
--- Calls by warp, as a listing has them.
+-- The calls of a warp.
 abbrev pub begin_by : ℕ → Call
 begin_by w = record { warp = w; op = Begin }
 
@@ -32,66 +34,72 @@ commit_by w = record { warp = w; op = Commit }
 abbrev pub fetch_by : ℕ → Call
 fetch_by w = record { warp = w; op = Fetch }
 
--- The product's machine over the exact book turns some calls.
+-- A run of the product's machine over the exact book.
 abbrev pub exact_run : List ℕ → List ℕ → List Call → Run exact
-exact_run stamps values calls = run (product exact) (make exact (word_lines values) exact_new stamps) calls
+exact_run stamps values calls =
+    run (product_policy exact) (new_machine exact (word_lines values) exact_new stamps) calls
 
--- A row: a call, and its answer or its refusal.
-pub record Row : Type 0 where
+-- A call, and its answer or its refusal.
+pub record WorkedCall : Type 0 where
   pub call : Call
   pub reply : Result Answer Fault
 
-abbrev pub says : Call → Answer → Row
-says call answer = record { call = call; reply = Ok answer }
+-- A call that is answered.
+abbrev pub answered_row : Call → Answer → WorkedCall
+answered_row call answer = record { call = call; reply = Ok answer }
 
-abbrev pub refuses : Call → Fault → Row
-refuses call fault = record { call = call; reply = Err fault }
+-- A call that is refused.
+abbrev pub refused_row : Call → Fault → WorkedCall
+refused_row call fault = record { call = call; reply = Err fault }
 
--- A worked run: first stamps and line values, each call with its answer, and the line values at the end.
+-- A worked run: the first stamps and line values, each call with its answer, and the line values at
+-- the end.
 pub record WorkedRun : Type 0 where
   pub stamps : List ℕ
   pub first_values : List ℕ
-  pub rows : List Row
+  pub rows : List WorkedCall
   pub last_values : List ℕ
 
--- A load meets a line that is written later, and reads what was committed after its warp's next begin.
+-- A load of a line that is written later aborts. Begun again after the writer's commit, the
+-- transaction reads the committed value. At the end a warp without a transaction is refused a load.
 abbrev pub reads_after_commit : WorkedRun
 reads_after_commit =
     record {
       stamps = 0 ∷ 0 ∷ [];
       first_values = 7 ∷ [];
       rows =
-          says (begin_by 0) Done
-          ∷ says (begin_by 1) Done
-          ∷ says (store_by 0 0 9) Done
-          ∷ says (load_by 1 0) (Gone WrittenLater 2)
-          ∷ says (commit_by 0) Done
-          ∷ says (begin_by 1) Done
-          ∷ says (load_by 1 0) (Val 9)
-          ∷ refuses (load_by 0 0) (fault_in_call WarpIdle 0)
+          answered_row (begin_by 0) Done
+          ∷ answered_row (begin_by 1) Done
+          ∷ answered_row (store_by 0 0 9) Done
+          ∷ answered_row (load_by 1 0) (Gone WrittenLater 2)
+          ∷ answered_row (commit_by 0) Done
+          ∷ answered_row (begin_by 1) Done
+          ∷ answered_row (load_by 1 0) (Val 9)
+          ∷ refused_row (load_by 0 0) (fault_in_call WarpIdle 0)
           ∷ [];
       last_values = 9 ∷ [];
     }
 
--- An older warp reads past a newer write, and is gone.
+-- A load aborts at a line that a transaction with a larger stamp has stored to.
 abbrev pub older_reader : WorkedRun
 older_reader =
     record {
       stamps = 20 ∷ 10 ∷ [];
       first_values = 100 ∷ 50 ∷ [];
       rows =
-          says (begin_by 0) Done
-          ∷ says (begin_by 1) Done
-          ∷ says (load_by 0 0) (Val 100)
-          ∷ says (store_by 0 0 90) Done
-          ∷ says (load_by 1 1) (Val 50)
-          ∷ says (store_by 1 1 40) Done
-          ∷ says (load_by 1 0) (Gone WrittenLater 22)
+          answered_row (begin_by 0) Done
+          ∷ answered_row (begin_by 1) Done
+          ∷ answered_row (load_by 0 0) (Val 100)
+          ∷ answered_row (store_by 0 0 90) Done
+          ∷ answered_row (load_by 1 1) (Val 50)
+          ∷ answered_row (store_by 1 1 40) Done
+          ∷ answered_row (load_by 1 0) (Gone WrittenLater 22)
           ∷ [];
       last_values = 100 ∷ 50 ∷ [];
     }
 
--- It goes on: the other transfers, and the retried load waits for its commit.
+-- The same run goes on: warp 0 stores to line 1 too, and a load of that line by warp 1, which has
+-- begun again, waits until warp 0 commits.
 abbrev pub waits_for_commit : WorkedRun
 waits_for_commit =
     record {
@@ -99,109 +107,110 @@ waits_for_commit =
       first_values = 100 ∷ 50 ∷ [];
       rows =
           older_reader.rows
-          ++ (says (load_by 0 1) (Val 50)
-          ∷ says (store_by 0 1 60) Done
-          ∷ says (begin_by 1) Done
-          ∷ says (load_by 1 1) Wait
-          ∷ says (commit_by 0) Done
-          ∷ says (fetch_by 1) (Val 60)
+          ++ (answered_row (load_by 0 1) (Val 50)
+          ∷ answered_row (store_by 0 1 60) Done
+          ∷ answered_row (begin_by 1) Done
+          ∷ answered_row (load_by 1 1) Wait
+          ∷ answered_row (commit_by 0) Done
+          ∷ answered_row (fetch_by 1) (Val 60)
           ∷ []);
       last_values = 90 ∷ 60 ∷ [];
     }
 
--- A warp meets its own last commit.
+-- A warp loads a line that its own last transaction wrote, at the same stamp, and aborts.
 abbrev pub own_last_commit : WorkedRun
 own_last_commit =
     record {
       stamps = 5 ∷ [];
       first_values = 7 ∷ [];
       rows =
-          says (begin_by 0) Done
-          ∷ says (store_by 0 0 8) Done
-          ∷ says (commit_by 0) Done
-          ∷ says (begin_by 0) Done
-          ∷ says (load_by 0 0) (Gone WrittenLater 7)
+          answered_row (begin_by 0) Done
+          ∷ answered_row (store_by 0 0 8) Done
+          ∷ answered_row (commit_by 0) Done
+          ∷ answered_row (begin_by 0) Done
+          ∷ answered_row (load_by 0 0) (Gone WrittenLater 7)
           ∷ [];
       last_values = 8 ∷ [];
     }
 
--- Two warps at one stamp: the read mark's warp number decides.
+-- Two warps have the same stamp: the warp number in the read mark decides.
 abbrev pub two_at_one_stamp : WorkedRun
 two_at_one_stamp =
     record {
       stamps = 0 ∷ 0 ∷ [];
       first_values = 1 ∷ 2 ∷ [];
       rows =
-          says (begin_by 0) Done
-          ∷ says (begin_by 1) Done
-          ∷ says (load_by 0 0) (Val 1)
-          ∷ says (load_by 1 1) (Val 2)
-          ∷ says (store_by 0 1 3) (Gone ReadLater 1)
-          ∷ says (store_by 1 0 4) Done
+          answered_row (begin_by 0) Done
+          ∷ answered_row (begin_by 1) Done
+          ∷ answered_row (load_by 0 0) (Val 1)
+          ∷ answered_row (load_by 1 1) (Val 2)
+          ∷ answered_row (store_by 0 1 3) (Gone ReadLater 1)
+          ∷ answered_row (store_by 1 0 4) Done
           ∷ [];
       last_values = 1 ∷ 2 ∷ [];
     }
 
--- Four requests fill a line's queue.
+-- Four requests fill the queue of a line, and the fifth aborts.
 abbrev pub line_is_full : WorkedRun
 line_is_full =
     record {
       stamps = 0 ∷ 1 ∷ 1 ∷ 1 ∷ 1 ∷ 1 ∷ [];
       first_values = 7 ∷ [];
       rows =
-          says (begin_by 0) Done
-          ∷ says (begin_by 1) Done
-          ∷ says (begin_by 2) Done
-          ∷ says (begin_by 3) Done
-          ∷ says (begin_by 4) Done
-          ∷ says (begin_by 5) Done
-          ∷ says (store_by 0 0 8) Done
-          ∷ says (load_by 1 0) Wait
-          ∷ says (load_by 2 0) Wait
-          ∷ says (load_by 3 0) Wait
-          ∷ says (load_by 4 0) Wait
-          ∷ says (load_by 5 0) (Gone QueueFull 1)
+          answered_row (begin_by 0) Done
+          ∷ answered_row (begin_by 1) Done
+          ∷ answered_row (begin_by 2) Done
+          ∷ answered_row (begin_by 3) Done
+          ∷ answered_row (begin_by 4) Done
+          ∷ answered_row (begin_by 5) Done
+          ∷ answered_row (store_by 0 0 8) Done
+          ∷ answered_row (load_by 1 0) Wait
+          ∷ answered_row (load_by 2 0) Wait
+          ∷ answered_row (load_by 3 0) Wait
+          ∷ answered_row (load_by 4 0) Wait
+          ∷ answered_row (load_by 5 0) (Gone QueueFull 1)
           ∷ [];
       last_values = 7 ∷ [];
     }
 
--- Of equal stamps the first to arrive is tried first.
+-- Of requests with equal stamps, the first to arrive is retried first.
 abbrev pub first_to_arrive : WorkedRun
 first_to_arrive =
     record {
       stamps = 0 ∷ 3 ∷ 3 ∷ [];
       first_values = 7 ∷ [];
       rows =
-          says (begin_by 0) Done
-          ∷ says (begin_by 1) Done
-          ∷ says (begin_by 2) Done
-          ∷ says (store_by 0 0 8) Done
-          ∷ says (store_by 2 0 9) Wait
-          ∷ says (load_by 1 0) Wait
-          ∷ says (commit_by 0) Done
-          ∷ says (fetch_by 2) Done
-          ∷ says (fetch_by 1) (Gone WrittenLater 5)
+          answered_row (begin_by 0) Done
+          ∷ answered_row (begin_by 1) Done
+          ∷ answered_row (begin_by 2) Done
+          ∷ answered_row (store_by 0 0 8) Done
+          ∷ answered_row (store_by 2 0 9) Wait
+          ∷ answered_row (load_by 1 0) Wait
+          ∷ answered_row (commit_by 0) Done
+          ∷ answered_row (fetch_by 2) Done
+          ∷ answered_row (fetch_by 1) (Gone WrittenLater 5)
           ∷ [];
       last_values = 8 ∷ [];
     }
 
--- The end of the clock.
+-- At the end of the clock an abort gives a next stamp past it, and the warp's next begin is
+-- refused.
 abbrev pub end_of_clock : WorkedRun
 end_of_clock =
     record {
       stamps = last_stamp ∷ last_stamp ∷ [];
       first_values = 7 ∷ [];
       rows =
-          says (begin_by 0) Done
-          ∷ says (begin_by 1) Done
-          ∷ says (store_by 0 0 8) Done
-          ∷ says (load_by 1 0) (Gone WrittenLater 1000000002)
-          ∷ refuses (begin_by 1) (fault_in_call ClockSpent 1000000002)
+          answered_row (begin_by 0) Done
+          ∷ answered_row (begin_by 1) Done
+          ∷ answered_row (store_by 0 0 8) Done
+          ∷ answered_row (load_by 1 0) (Gone WrittenLater 1000000002)
+          ∷ refused_row (begin_by 1) (fault_in_call ClockSpent 1000000002)
           ∷ [];
       last_values = 7 ∷ [];
     }
 
--- All of them.
+-- All worked runs.
 abbrev pub worked_runs : List WorkedRun
 worked_runs =
     reads_after_commit
@@ -214,16 +223,17 @@ worked_runs =
     ∷ end_of_clock
     ∷ []
 
--- What the calls are answered and what each line holds in the end, as the rules turn the run.
-abbrev pub turned : WorkedRun → List (Result Answer Fault) × List (Option ℕ)
-turned r =
-    let after = exact_run r.stamps r.first_values (map (λ (row : Row). row.call) r.rows) in
-    (map (λ (e : Event). e.answer) after.events, map after.machine.lines (upto (length r.first_values)))
+-- The answers to the calls and the line values at the end, as the rules give them.
+abbrev pub run_result : WorkedRun → List (Result Answer Fault) × List (Option ℕ)
+run_result r =
+    let after = exact_run r.stamps r.first_values (map (λ (row : WorkedCall). row.call) r.rows) in
+    let lines = numbers_below (length r.first_values) in
+    (map (λ (e : Event). e.answer) after.events, map after.machine.lines lines)
 
--- The same, as the run says it.
-abbrev pub said : WorkedRun → List (Result Answer Fault) × List (Option ℕ)
-said r = (map (λ (row : Row). row.reply) r.rows, map Some r.last_values)
+-- The same, as the worked run states them.
+abbrev pub stated_result : WorkedRun → List (Result Answer Fault) × List (Option ℕ)
+stated_result r = (map (λ (row : WorkedCall). row.reply) r.rows, map Some r.last_values)
 
--- Each worked run is turned as it says.
+-- The rules give what each worked run states.
 abbrev pub WorkedRunsStand : Type 0
-WorkedRunsStand = map turned worked_runs ≡ map said worked_runs
+WorkedRunsStand = map run_result worked_runs ≡ map stated_result worked_runs

@@ -1,5 +1,5 @@
-//! What a warp may be doing, and what it may wait for.
-use protocol::answer::Outcome;
+//! What a warp can be doing, and what it can wait for.
+use protocol::Outcome;
 
 /// What a load or a store wants of its line.
 #[derive(Clone, Copy, Default)]
@@ -11,7 +11,7 @@ pub enum Access {
     Write { value: u32 },
 }
 
-/// A load or a store that waits.
+/// A load or a store that waits in the queue.
 #[derive(Clone, Copy, Default)]
 pub struct Request {
     pub warp: u32,
@@ -28,6 +28,6 @@ pub enum Phase {
     Open,
     /// Its last load or store waits.
     Waiting,
-    /// Its last load or store waited and has come out, and the outcome is not fetched yet.
+    /// Its last load or store waited and is settled, and the outcome is not fetched yet.
     Settled { outcome: Outcome },
 }

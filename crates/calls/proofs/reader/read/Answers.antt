@@ -4,7 +4,8 @@ use Rattle.std.specs.Prelude.{nat_lt}
 use Rattle.std.specs.List.{position}
 use Rattle.protocol.specs.Limits.{last_stamp}
 use Rattle.calls.specs.Format.{rows_from}
-use Rattle.calls.proofs.Parts.{place_is, stamps_are, stamps_many, stamps_checked, values_are, values_many}
+use Rattle.calls.proofs.Parts.{place_is, stamps_are, stamps_many, stamps_checked, values_are}
+use Rattle.calls.proofs.Parts.{values_many}
 use Rattle.calls.proofs.reader.read.Goals as goal
 
 pub returns-in-Some : goal.returns-in-Some

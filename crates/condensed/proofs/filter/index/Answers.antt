@@ -1,8 +1,8 @@
--- Each turn leaves the rest of the index to the numbers that are left; in the end no number is left.
+-- Each step keeps the invariant, and at the end no number is left.
 use Rattle.std.proofs.Common.{◌<◌, sym, subst, refl, ap, ◌∙◌, arith}
 use Rattle.std.proofs.lemmas.Grind.{common_steps}
 use Rattle.condensed.specs.Filter.{index_by}
-use Rattle.condensed.specs.Indices.{index_next, index_none, index_below}
+use Rattle.condensed.specs.Lemmas.Indices.{index_next, index_none, index_below}
 use Rattle.condensed.proofs.filter.index.Goals as goal
 
 pub loop-bit-init : goal.loop-bit-init
@@ -19,5 +19,6 @@ returns c =
     ∙ c.loop-bit.invariant in
     record {
       value = value;
-      inside = λ within. subst (λ n. n < 64) (sym value) (index_below c.args.numbers.now within c.args.line);
+      inside = λ within. subst (λ n. n < 64) (sym value)
+          (index_below c.args.numbers.now within c.args.line);
     }

@@ -5,4 +5,5 @@ use Rattle.explain.proofs.end.add_lines.Given as goal
 
 abbrev pub invariant-loop-line : goal.invariant-loop-line
 invariant-loop-line g l =
-    AddsRows (mem_rows (g.M.Memory.at l.machine.memory) l.line) (string_bytes l.fn.text) (string_bytes l.all)
+    AddsRows (mem_rows (g.M.Memory.at l.machine.memory) l.line) (string_bytes l.fn.text)
+    (string_bytes l.all)

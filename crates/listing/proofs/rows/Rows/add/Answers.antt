@@ -11,5 +11,6 @@ invariant_of-self c =
       utf8 =
           row_added (is_ok c.extend_from_slice.result) _ old _ row.utf8 c.args.self.now.utf8
           (c.extend_from_slice.ensures.items
-          ∙ ap (λ bytes. cond (is_ok c.extend_from_slice.result) (old ++ bytes) old) c.as_bytes.ensures);
+          ∙ ap (λ bytes. cond (is_ok c.extend_from_slice.result) (old ++ bytes) old)
+          c.as_bytes.ensures);
     }

@@ -8,6 +8,7 @@ use Rattle.listing.proofs.rows.Rows.add_calls.Given as goal
 abbrev pub invariant-loop-i : goal.invariant-loop-i
 invariant-loop-i l =
     l.self.bytes.items
-    ++ call_rows (enumerate_count l.i-iterator + 1) (iter_rest (zip_first (enumerate_source l.i-iterator)))
+    ++ call_rows (enumerate_count l.i-iterator + 1)
+    (iter_rest (zip_first (enumerate_source l.i-iterator)))
     (iter_rest (zip_second (enumerate_source l.i-iterator)))
     ≡ l.fn.self.bytes.items ++ call_rows 1 l.calls l.answers

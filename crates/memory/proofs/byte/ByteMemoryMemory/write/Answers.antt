@@ -1,4 +1,5 @@
--- The four bytes that are written are the line's, no other line's and none of the odd bytes at the end.
+-- The four bytes that are written are the line's, no other line's and none of the odd bytes at the
+-- end.
 use Rattle.std.proofs.Common.{arith, rules}
 use Rattle.memory.proofs.FourBytes.{line_written, odd_bytes_stay}
 use Rattle.memory.proofs.byte.ByteMemoryMemory.write.Goals as goal

@@ -1,6 +1,0 @@
-//! A listing against another, row by row.
-#![tactic(auto)]
-
-pub mod compare;
-#[cfg(test)]
-mod tests;

@@ -1,5 +1,0 @@
-use Rattle.rules.proofs.Fetches.{law_of_fetches}
-use Rattle.rules.proofs.fetches_tell.Goals as goal
-
-pub returns : goal.returns
-returns g c = law_of_fetches g.B.Versions.kind

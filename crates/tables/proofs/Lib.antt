@@ -1,4 +1,0 @@
-mod Words
-pub mod WarpRows
-mod Fitting
-mod Order

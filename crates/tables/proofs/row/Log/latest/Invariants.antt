@@ -1,8 +1,0 @@
--- The stores so far are looked through.
-use Rattle.std.proofs.Common.{◌≡◌, map, take}
-use Rattle.rules.specs.Logs.{last_stored}
-use Rattle.tables.specs.Rows.{entry_of}
-use Rattle.tables.proofs.row.Log.latest.Given as goal
-
-abbrev pub invariant-loop-store : goal.invariant-loop-store
-invariant-loop-store l = l.found ≡ last_stored (map entry_of (take l.store-index l.store-items)) l.line
